@@ -1,0 +1,7 @@
+pub mod Bits
+pub mod BitLaws
+pub mod Division
+pub mod DivisionLaws
+pub mod Search
+pub mod Streams
+pub mod Memory
