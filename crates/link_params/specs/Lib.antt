@@ -1,0 +1,5 @@
+pub mod Laws
+pub mod Numbers
+pub mod TimingLaws
+pub mod Links
+pub mod Sizes

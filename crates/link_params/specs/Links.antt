@@ -1,0 +1,8 @@
+-- A link as contracts see it.
+use Rattle.link_params.specs.declared.fields.Params.{Params}
+use Rattle.link_params.specs.declared.fields.Timing.{Timing}
+
+-- its parameters and its timing, which obey all laws
+pub record Link : Type 0 where
+  pub params : Params
+  pub timing : Timing
