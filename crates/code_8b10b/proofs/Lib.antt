@@ -1,0 +1,10 @@
+pub mod Characters
+pub mod Entries
+pub mod Hunting
+pub mod Locks
+pub mod Phases
+pub mod Places
+pub mod Readings
+pub mod Spellings
+pub mod Tabulated
+pub mod Windows

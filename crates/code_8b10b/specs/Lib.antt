@@ -1,0 +1,6 @@
+pub mod Code
+pub mod Reads
+pub mod CodeLaws
+pub mod Commas
+pub mod CommaLaws
+pub mod Entries
