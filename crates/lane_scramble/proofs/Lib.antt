@@ -1,0 +1,3 @@
+pub mod ScrambleLemmas
+pub mod TapLemmas
+pub mod WordLemmas

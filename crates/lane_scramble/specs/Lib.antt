@@ -1,0 +1,3 @@
+pub mod Scrambling
+pub mod ScrambleLaws
+pub mod Scramblers
