@@ -1,0 +1,3 @@
+pub mod DivisionInParts
+pub mod TableLemmas
+pub mod ByteLemmas
