@@ -1,0 +1,11 @@
+pub mod Dividing
+pub mod Numbers
+pub mod Free
+pub mod Single
+pub mod Carried
+pub mod Trapping
+pub mod TrappedByDividing
+pub mod Bytes
+pub mod Remainders
+pub mod Flipping
+pub mod Corrected

@@ -1,0 +1,8 @@
+use Rattle.std.proofs.Common.{◌≡◌, take}
+use Rattle.jesd_base.specs.Bits.{value}
+use Rattle.fire_fec.specs.Burst.{parity}
+use Rattle.fire_fec.specs.Corrects.{payload_bits}
+use Rattle.fire_fec.proofs.remainder.parity.Given as goal
+
+abbrev pub invariant-loop-block : goal.invariant-loop-block
+invariant-loop-block l = l.rest ≡ value (parity (payload_bits (take l.block-index l.payload)))

@@ -1,0 +1,5 @@
+pub mod Burst
+pub mod Corrects
+pub mod Shifting
+pub mod BurstLaws
+pub mod CorrectionLaws
