@@ -1,0 +1,5 @@
+pub mod BitLemmas
+pub mod FrameLemmas
+pub mod GroupLemmas
+pub mod PlaceLemmas
+pub mod SizeLemmas

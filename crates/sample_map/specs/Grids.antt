@@ -1,0 +1,6 @@
+-- The sizes of a grid.
+use Rattle.sample_map.specs.Groups.{Grouping}
+use Rattle.sample_map.specs.declared.grid.Grid.{Grid}
+
+abbrev pub sizes : Grid → Grouping
+sizes g = record { words = g.words; octets = g.octets; width = g.width; used = g.used }

@@ -1,0 +1,24 @@
+-- Laws of the layout.
+use Rattle.std.specs.Prelude.{◌≡◌, ℕ, ◌+◌, ◌*◌, ◌^◌, ◌<◌, List, length, slice_index, None}
+use Rattle.link_params.specs.declared.fields.Params.{Params}
+use Rattle.link_params.specs.Laws.{broken_law}
+use Rattle.sample_map.specs.Layout.{IsFrame, AreWords, place}
+
+-- words of a frame's size
+pub record FitFrame (p : Params) (words : List ℕ) : Type 0 where
+  pub whole : length words ≡ p.m * p.s
+  pub below : (r : ℕ) → r < p.m * p.s → slice_index words r < 2 ^ (p.n + p.cs)
+
+-- reading what was laid out gives the words back
+abbrev pub ReadsBack : Type 0
+ReadsBack = (p : Params) (words octets read : List ℕ) → broken_law p ≡ None → FitFrame p words
+    → IsFrame p words octets → AreWords p octets read → read ≡ words
+
+-- each bit of each word has a place within the frame
+abbrev pub PlacesFit : Type 0
+PlacesFit = (p : Params) (r b : ℕ) → broken_law p ≡ None → r < p.m * p.s → b < p.np → place p r b < 8 * (p.l * p.f)
+
+-- and no two of them have the same
+abbrev pub PlacesApart : Type 0
+PlacesApart = (p : Params) (r b word bit : ℕ) → broken_law p ≡ None → r < p.m * p.s → b < p.np → word < p.m * p.s → bit < p.np
+    → place p r b ≡ place p word bit → (r ≡ word) × (b ≡ bit)

@@ -1,0 +1,5 @@
+pub mod Layout
+pub mod LayoutLaws
+pub mod Groups
+pub mod Grids
+pub mod Cursors
