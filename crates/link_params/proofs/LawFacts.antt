@@ -1,5 +1,5 @@
 -- What the laws say of numbers.
-use Rattle.std.proofs.Common.{◌≡◌, ◌≤◌, ◌<◌, ◌+◌, ◌-◌, ◌==◌, ◌*◌, ◌/◌, ◌%◌, ◌&&◌, ◌||◌, ℕ, Bool, true, false, List, [], ◌∷◌, Some, None, nat_le, nat_lt, min, arith, inl, inr}
+use Rattle.std.proofs.Common.{◌≡◌, ◌≤◌, ◌<◌, ◌+◌, ◌-◌, ◌==◌, ◌*◌, ◌/◌, ◌%◌, ◌&&◌, ◌||◌, ℕ, zero, suc, Bool, true, false, List, [], ◌∷◌, Some, None, nat_le, nat_lt, min, arith, inl, inr}
 use Rattle.std.proofs.Math.Nat.{mul-le-mul_left}
 use Rattle.std.proofs.lemmas.Bool.{cases_Bool, leb-true, ltb-true, eqb-true, and_parts}
 use Rattle.std.proofs.lemmas.Bool.Decides.{nat_tests}
@@ -69,6 +69,43 @@ legal_sizes p e =
       octets = eqb-true p.f (due_octets p) a.1.1.1.1.1.1.1.1.1.0;
       period_low = t.low;
       period = t.high;
+    }
+
+some_factor : (a b : ℕ) → 1 ≤ a * b → 1 ≤ b
+some_factor a zero h = absurd (omega arith)
+some_factor a (suc b) h = omega arith
+
+-- the fields of the configuration octets have room for legal parameters
+pub record HaveRoom (p : Params) : Type 0 where
+  pub l : p.l ≤ 32
+  pub f : p.f ≤ 256
+  pub k_low : 1 ≤ p.k
+  pub k : p.k ≤ 32
+  pub m : p.m ≤ 256
+  pub cs : p.cs ≤ 3
+  pub n : p.n ≤ 32
+  pub np : p.np ≤ 32
+  pub s : p.s ≤ 32
+
+pub rooms : (p : Params) → broken_law p ≡ None → is_b p.mode ≡ true → HaveRoom p
+rooms p e b =
+    let a = all_hold (laws p) e in
+    let law = a.1.1.1.1.1.1.1.1.1.1.0 in
+    let parts = and_parts (p.e == 0) (is_within (ceil 17 p.f) (min 32 (1024 / p.f)) p.k) (rw b at law) in
+    let frames = within-true (ceil 17 p.f) (min 32 (1024 / p.f)) p.k parts.1 in
+    let sizes = legal_sizes p e in
+    let least : 17 ≤ p.f * p.k = rw b at sizes.period_low in
+    let word = sizes.word in
+    record {
+      l = sizes.l;
+      f = sizes.f;
+      k_low = some_factor p.f p.k (omega arith);
+      k = omega (arith, frames);
+      m = sizes.m;
+      cs = leb-true p.cs 3 a.1.1.1.1.1.1.0;
+      n = omega (arith, sizes.np);
+      np = sizes.np;
+      s = sizes.s;
     }
 
 -- a legal timing lies within these limits

@@ -3,3 +3,4 @@ pub mod Numbers
 pub mod TimingLaws
 pub mod Links
 pub mod Sizes
+pub mod Config

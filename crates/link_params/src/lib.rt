@@ -3,12 +3,15 @@
 //! ```text
 //! let shape = params.check()?;
 //! let link = shape.with(&timing)?;
-//! let frames_leave_after = link.latency();
+//! let octets = config_octets(&link, 0);
 //! ```
 #![tactic(auto)]
 
 mod check;
+mod config;
 mod fields;
+mod ilas_state;
+mod lane_config;
 mod law;
 mod link;
 mod numbers;
@@ -17,7 +20,10 @@ mod shape;
 mod tests;
 mod timing_check;
 
+pub use config::{BadFchk, Config};
 pub use fields::{Mode, Params, Timing};
+pub use ilas_state::{IlasCause, IlasState};
+pub use lane_config::{config_octets, first_difference, octet_differs, read_config};
 pub use law::Law;
 pub use link::Link;
 pub use numbers::sizes;

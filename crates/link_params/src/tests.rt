@@ -1,8 +1,17 @@
 //! Tests.
-use crate::{Law, Mode, Params, Timing};
+ghost use Rattle.std.specs.Prelude.{◌≡◌, ◌<◌, IfSome};
+ghost use Rattle.link_params.specs.declared.fields.Mode.TheVariants.{B};
+
+use crate::{
+    BadFchk, Config, Law, Link, Mode, Params, Timing, config_octets, first_difference,
+    octet_differs, read_config,
+};
 
 /// Two lanes, two converters of sixteen bits, a multiframe of 64 octets.
-fn usual() -> Params {
+fn usual() -> Params
+    ensures mode { result.mode ≡ B }
+    ensures lanes { result.l ≡ 2 }
+{
     Params {
         mode: Mode::B,
         l: 2,
@@ -30,6 +39,18 @@ fn usual_timing() -> Timing {
         sync_delay: 5,
         w_lo: 5,
         w_hi: 20,
+    }
+}
+
+fn usual_link() -> Option<Link>
+    ensures { IfSome result (λ k. (k.params.mode ≡ B) × (k.params.l ≡ 2)) }
+{
+    match usual().check() {
+        Ok(shape) => match shape.with(&usual_timing()) {
+            Ok(link) => Some(link),
+            Err(_) => None,
+        },
+        Err(_) => None,
     }
 }
 
@@ -361,4 +382,80 @@ fn numbers_of_two_links(rt: HostRuntime) {
         ];
         assert_eq!(rt; got, want);
     }
+}
+
+// What lane 1 of the usual link sends.
+fn sent() -> Option<[u8; 14]> {
+    let link = usual_link()?;
+    Some(config_octets(&link, 1))
+}
+
+// What the usual octets read as with another octet 13.
+fn read_with(fchk: u8) -> Option<Result<Config, BadFchk>> {
+    let mut octets = sent()?;
+    octets[13] = fchk;
+    Some(read_config(&octets))
+}
+
+// The first difference from lane 1 where one octet is another.
+fn difference_with(index: usize, octet: u8) -> Option<u32>
+    requires { index < 13 }
+{
+    let link = usual_link()?;
+    let mut octets = config_octets(&link, 1);
+    octets[index] = octet;
+    first_difference(&octets, &link, 1)
+}
+
+#[test]
+fn octets_that_a_lane_sends(rt: HostRuntime) {
+    let want = [0, 0, 1, 0x81, 1, 0x1F, 1, 0x0F, 0x2F, 0x20, 0, 0, 0, 0x44];
+    assert_eq!(rt; sent(), Some(want));
+}
+
+#[test]
+fn either_sum_is_read(rt: HostRuntime) {
+    let config = Config {
+        did: 0,
+        adjcnt: 0,
+        bid: 0,
+        adjdir: 0,
+        phadj: 0,
+        lid: 1,
+        scr: 1,
+        l: 1,
+        f: 1,
+        k: 31,
+        m: 1,
+        cs: 0,
+        n: 15,
+        subclass: 1,
+        np: 15,
+        version: 1,
+        s: 0,
+        hd: 0,
+        cf: 0,
+    };
+    assert_eq!(rt; read_with(0x44), Some(Ok(config)));
+    assert_eq!(rt; read_with(0x01), Some(Ok(config)));
+    assert_eq!(rt; read_with(0x02), Some(Err(BadFchk)));
+}
+
+#[test]
+fn compared_bits_of_octets(rt: HostRuntime) {
+    assert_eq!(rt; difference_with(0, 0xFF), None);
+    assert_eq!(rt; difference_with(3, 0xE1), None);
+    assert_eq!(rt; difference_with(3, 0x01), Some(3));
+    assert_eq!(rt; difference_with(9, 0xE0), None);
+    assert_eq!(rt; difference_with(9, 0x21), Some(9));
+}
+
+#[test]
+fn one_octet_differs(rt: HostRuntime) {
+    let Some(link) = usual_link() else {
+        assert!(rt; false, "the parameters and the timing are legal");
+        return;
+    };
+    assert!(rt; octet_differs(&link, 0, 2, 1));
+    assert!(rt; !octet_differs(&link, 1, 2, 1));
 }
