@@ -1,0 +1,8 @@
+-- What a scenario gives a link.
+use Rattle.std.specs.Prelude.{ℕ, List}
+use Rattle.scenario.specs.declared.input.Input.{Input}
+use Rattle.scenario.specs.declared.input.Input.TheVariants.{Frames}
+
+-- the words of an input
+abbrev pub input_words : Input → List ℕ
+input_words (Frames words) = words.items

@@ -1,0 +1,243 @@
+-- What an input says to a job, or the first thing that is wrong with it: a table of checks for each kind of record, and a
+-- fold over the records.
+-- Code: one record at a time, with an early exit.
+use Rattle.std.specs.Prelude.{◌≡◌, ℕ, zero, suc, ◌+◌, ◌*◌, ◌^◌, ◌==◌, ◌&&◌, nat_lt, nat_le, Bool, true, false, List, [], ◌∷◌, ◌++◌, length, map, Option, Some, None, Result, Ok, Err, if◌then◌else◌, codes, is_some, unwrap_or, option_map, drop}
+use Rattle.std.specs.Str.{bytes_eq}
+use Rattle.std.specs.List.{list_all, slice_index_or}
+use Rattle.csv.specs.Reading.{default_config, records, strip_bom}
+use Rattle.csv.specs.Records.{Row, fields_of}
+use Rattle.link_params.specs.declared.fields.Params.{Params}
+use Rattle.link_params.specs.declared.fields.Mode.{Mode}
+use Rattle.link_params.specs.declared.fields.Mode.TheVariants as mode
+use Rattle.link_params.specs.Laws.{broken_law}
+use Rattle.scenario.specs.declared.fault.Fault.{Fault}
+use Rattle.scenario.specs.declared.kind.Job.{Job}
+use Rattle.scenario.specs.declared.kind.Job.TheVariants as job
+use Rattle.scenario.specs.declared.kind.Kind.{Kind}
+use Rattle.scenario.specs.declared.kind.Kind.TheVariants as kind
+use Rattle.scenario.specs.declared.stage.Stage.{Stage}
+use Rattle.scenario.specs.declared.stage.Stage.TheVariants as stage
+use Rattle.scenario.specs.Text.{Text, stripped, number, word, is_hex, octets_of}
+use Rattle.scenario.specs.Check.{fault, unless, lowest, first, Checks, fault_of, or_fault}
+
+-- ---- records and fields
+
+-- the fields of one record, with no blanks at their ends
+abbrev pub texts_of : Row → List Text
+texts_of r = map stripped (fields_of r)
+
+-- the records of an input, each as its fields; a byte order mark in front is no part of it
+abbrev pub rows_of : List ℕ → List (List Text)
+rows_of bytes = map (map stripped) (records default_config (strip_bom bytes))
+
+-- the field at a place; the kind has place 0
+abbrev pub field : List Text → ℕ → Text
+field fields i = slice_index_or fields i []
+
+-- the number in a field, 0 where there is none
+abbrev pub num : List Text → ℕ → ℕ
+num fields i = unwrap_or (number (field fields i)) 0
+
+-- n fields from place i on, each a number or not
+unfoldable pub are_numbers : ℕ → ℕ → List Text → List Bool
+are_numbers i zero fields = []
+are_numbers i (suc n) fields = is_some (number (field fields i)) ∷ are_numbers (i + 1) n fields
+
+-- the numbers in n fields from place i on
+abbrev pub numbers_from : ℕ → ℕ → List Text → List ℕ
+numbers_from i zero fields = []
+numbers_from i (suc n) fields = num fields i ∷ numbers_from (i + 1) n fields
+
+-- what a reader of numbers answers: the numbers in the fields from place i on, or the first field with no number
+abbrev pub ReadNumbers : ℕ → List Text → List ℕ → Result (Unit {0}) Fault → Type 0
+ReadNumbers i fields ns (Ok u) = (lowest i (are_numbers i (length ns) fields) ≡ None) × (ns ≡ numbers_from i (length ns) fields)
+ReadNumbers i fields ns (Err f) = option_map (fault 6) (lowest i (are_numbers i (length ns) fields)) ≡ Some f
+
+abbrev pub is_word : Text → Bool
+is_word text = is_some (word text)
+
+abbrev pub word_or_0 : Text → ℕ
+word_or_0 text = unwrap_or (word text) 0
+
+-- what has this name
+abbrev pub find_named : {X : Type 0} → Text → List (Text × X) → Option X
+find_named text [] = None
+find_named text (p ∷ ps) = if bytes_eq text p.0 then Some p.1 else find_named text ps
+
+abbrev pub mode_of : Text → Option Mode
+mode_of text = find_named text ((codes "b", mode.B) ∷ (codes "ccrc", mode.CCrc) ∷ (codes "cfec", mode.CFec) ∷ [])
+
+-- the kinds of both versions
+abbrev pub kinds_1 : List (Text × Kind)
+kinds_1 = (codes "jesd", kind.Jesd) ∷ (codes "link", kind.Link) ∷ (codes "timing", kind.Timing) ∷ (codes "run", kind.Run)
+    ∷ (codes "frame", kind.Frame) ∷ (codes "octets", kind.Octets) ∷ (codes "ramp", kind.Ramp) ∷ (codes "delay", kind.Delay)
+    ∷ (codes "reset", kind.Reset) ∷ (codes "dead", kind.Dead) ∷ (codes "jitter", kind.Jitter) ∷ (codes "flip", kind.Flip) ∷ []
+
+-- the kinds that version 2 adds
+abbrev pub kinds_2 : List (Text × Kind)
+kinds_2 = (codes "wire", kind.Wire) ∷ (codes "route", kind.Route) ∷ (codes "polarity", kind.Polarity) ∷ (codes "subclass", kind.Subclass) ∷ []
+
+abbrev pub or_else : {X : Type 0} → Option X → Option X → Option X
+or_else None o = o
+or_else (Some x) o = Some x
+
+-- the kind of this name, in a version of the format
+unfoldable pub kind_of : ℕ → Text → Option Kind
+kind_of version text = or_else (find_named text kinds_1) (if nat_le 2 version then find_named text kinds_2 else None)
+
+-- ---- the checks of each kind, and what its records say
+
+abbrev pub params_of : List Text → Params
+params_of fields = record {
+  mode = unwrap_or (mode_of (field fields 1)) mode.B;
+  l = num fields 2;
+  m = num fields 3;
+  f = num fields 4;
+  s = num fields 5;
+  n = num fields 6;
+  np = num fields 7;
+  cs = num fields 8;
+  hd = num fields 9 == 1;
+  scr = num fields 10 == 1;
+  k = num fields 11;
+  e = num fields 12;
+}
+
+-- the first broken law of the link
+unfoldable pub link_law : List Text → Option ℕ
+link_law fields = broken_law (params_of fields)
+
+-- `link`: mode, L, M, F, S, N, N', CS, HD, SCR, K, E; HD and SCR are 0 or 1, and the laws hold
+abbrev pub link_checks : List Text → Checks
+link_checks fields = record {
+  count = 12;
+  forms = is_some (mode_of (field fields 1)) ∷ are_numbers 2 11 fields;
+  ranges = true ∷ true ∷ true ∷ true ∷ true ∷ true ∷ true ∷ true ∷ nat_le (num fields 9) 1 ∷ nat_le (num fields 10) 1 ∷ [];
+  more = option_map (fault 8) (link_law fields) ∷ [];
+}
+
+-- words are below this
+abbrev pub word_limit : Params → ℕ
+word_limit p = 2 ^ (p.n + p.cs)
+
+-- `frame`: M·S words
+abbrev pub frame_checks : Params → List Text → Checks
+frame_checks p fields = record {
+  count = p.m * p.s;
+  forms = map is_word (drop 1 fields);
+  ranges = map (λ text. nat_lt (word_or_0 text) (word_limit p)) (drop 1 fields);
+  more = [];
+}
+
+abbrev pub words_of : List Text → List ℕ
+words_of fields = map word_or_0 (drop 1 fields)
+
+-- exactly 2·F hexadecimal digits
+abbrev pub is_octets : ℕ → Text → Bool
+is_octets f text = (length text == 2 * f) && list_all is_hex text
+
+-- `octets`: L fields of F octets
+abbrev pub octets_checks : Params → List Text → Checks
+octets_checks p fields = record {
+  count = p.l;
+  forms = map (is_octets p.f) (drop 1 fields);
+  ranges = [];
+  more = [];
+}
+
+abbrev pub all_octets : List Text → List ℕ
+all_octets [] = []
+all_octets (f ∷ fs) = octets_of f ++ all_octets fs
+
+-- ---- one record
+
+-- what the records so far say: the version of the format (0 before the first record), the place in the order of records with
+-- what is fixed there, the words of all frames, and the octets of all records `octets`
+pub record Seen : Type 0 where
+  pub version : ℕ
+  pub stage : Stage
+  pub words : List ℕ
+  pub octets : List ℕ
+
+abbrev pub nothing : Seen
+nothing = record { version = 0; stage = stage.Version; words = []; octets = [] }
+
+-- a record of an allowed kind: its checks, then what it adds
+abbrev pub add : List Text → Checks → Seen → Result Seen Fault
+add fields checks seen = or_fault (fault_of (length fields) checks) seen
+
+-- a known kind that stands where it is not allowed
+abbrev pub misplaced : Result Seen Fault
+misplaced = Err (fault 3 0)
+
+-- after `link` a job takes the records of one kind
+abbrev pub after_link : Job → Params → Stage
+after_link job.Map p = stage.Frames p
+after_link job.Unmap p = stage.Octets p
+
+-- a record of a known kind, at a place in the order
+abbrev pub of_kind : Seen → List Text → Stage → Kind → Result Seen Fault
+of_kind seen fields (stage.Link j) kind.Link = add fields (link_checks fields) (record seen { stage = after_link j (params_of fields) })
+of_kind seen fields (stage.Frames p) kind.Frame = add fields (frame_checks p fields) (record seen { words = seen.words ++ words_of fields })
+of_kind seen fields (stage.Octets p) kind.Octets = add fields (octets_checks p fields) (record seen { octets = seen.octets ++ all_octets (drop 1 fields) })
+of_kind seen fields s k = misplaced
+
+abbrev pub of_known : Seen → List Text → Option Kind → Result Seen Fault
+of_known seen fields None = Err (fault 4 0)
+of_known seen fields (Some k) = of_kind seen fields seen.stage k
+
+-- the version of this name
+abbrev pub version_of : Text → Option ℕ
+version_of text = if bytes_eq text (codes "1") then Some 1 else if bytes_eq text (codes "2") then Some 2 else None
+
+-- the first record names version 1 or version 2
+abbrev pub version_fault : List Text → Option Fault
+version_fault fields = first (
+    unless (bytes_eq (field fields 0) (codes "jesd")) (fault 2 0)
+    ∷ unless (length fields == 2) (fault 5 (length fields))
+    ∷ unless (is_some (version_of (field fields 1))) (fault 2 1)
+    ∷ [])
+
+abbrev pub version_read : Job → Seen → List Text → Result Seen Fault
+version_read j seen fields = or_fault (version_fault fields)
+    (record seen { version = unwrap_or (version_of (field fields 1)) 0; stage = stage.Link j })
+
+abbrev pub is_start : Stage → Bool
+is_start stage.Version = true
+is_start s = false
+
+-- one record more
+abbrev pub step : Job → Seen → List Text → Result Seen Fault
+step j seen fields = if is_start seen.stage then version_read j seen fields
+    else of_known seen fields (kind_of seen.version (field fields 0))
+
+-- ---- all records
+
+-- a refused input: the first bad record, the cause, and its place in the record
+pub record Refusal : Type 0 where
+  pub row : ℕ
+  pub cause : ℕ
+  pub at : ℕ
+
+abbrev pub bad_at : ℕ → ℕ → ℕ → Refusal
+bad_at r c a = record { row = r; cause = c; at = a }
+
+-- whether the required records are there
+abbrev pub is_whole : Stage → Bool
+is_whole (stage.Frames p) = true
+is_whole (stage.Octets p) = true
+is_whole s = false
+
+-- the end of the records, after n of them
+abbrev pub ended : ℕ → Seen → Result Seen Refusal
+ended n seen = if is_start seen.stage then Err (bad_at 0 1 0) else if is_whole seen.stage then Ok seen else Err (bad_at (n + 1) 11 0)
+
+-- what n records said, then these records: the first fault, or what all of them say
+unfoldable pub over : Job → ℕ → Result Seen Fault → List (List Text) → Result Seen Refusal
+over j n (Err f) rows = Err (bad_at n f.cause f.at)
+over j n (Ok seen) [] = ended n seen
+over j n (Ok seen) (fields ∷ rows) = over j (n + 1) (step j seen fields) rows
+
+-- the input's scenario, or its refusal
+unfoldable pub reads : Job → List ℕ → Result Seen Refusal
+reads j bytes = over j 0 (Ok nothing) (rows_of bytes)
