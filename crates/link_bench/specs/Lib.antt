@@ -1,0 +1,4 @@
+pub mod Lines
+pub mod Jobs
+pub mod Causes
+pub mod Scenarios

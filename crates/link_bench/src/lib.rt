@@ -1,0 +1,16 @@
+//! The jobs of the bench: what the program `jesd_bench` does with its words, its input and its output.
+//!
+//! ```text
+//! let mut input = StdSource::new(rt.stdin());
+//! let mut out = StdSink::new(rt.stdout());
+//! let status = bench(rt.alloc(), &words, &mut input, &mut out);
+//! ```
+#![tactic(auto)]
+
+mod digits;
+mod lines;
+#[cfg(test)]
+mod tests;
+mod top;
+
+pub use top::bench;
