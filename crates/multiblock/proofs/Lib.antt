@@ -1,0 +1,5 @@
+pub mod SyncLemmas
+pub mod PlaceLemmas
+pub mod Masks
+pub mod Patterns
+pub mod Hunting

@@ -1,0 +1,5 @@
+pub mod SyncWords
+pub mod SyncLaws
+pub mod Places
+pub mod PlaceLaws
+pub mod Hunts
