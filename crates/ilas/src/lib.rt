@@ -1,0 +1,16 @@
+//! The initial lane alignment sequence of a lane: what is sent, and the check of what is received.
+//!
+//! ```text
+//! let c = ilas_char(&link, 0, 0); // Char::Control(0x1C)
+//! let mut check = IlasCheck::new(&link, 0);
+//! let state = check.push(reading); // IlasState::Going
+//! ```
+#![tactic(auto)]
+
+mod check;
+mod sequence;
+#[cfg(test)]
+mod tests;
+
+pub use check::IlasCheck;
+pub use sequence::{ilas, ilas_char};
