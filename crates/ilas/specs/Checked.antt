@@ -1,5 +1,5 @@
 -- The check of a received alignment sequence: the first place that breaks a rule, and why.
--- Code: one reading at a time, with the sums of the configuration octets so far.
+-- Code: one reading at a time, with the configuration octets so far.
 use Rattle.std.specs.Prelude.{ℕ, suc, ◌+◌, ◌-◌, ◌*◌, ◌==◌, nat_le, nat_lt, Bool, true, false, ◌&&◌, if◌then◌else◌, List, [], ◌∷◌, map, length, take, drop, Option, Some, None}
 use Rattle.link_params.specs.declared.fields.Params.{Params}
 use Rattle.link_params.specs.declared.ilas_state.IlasCause.{IlasCause}

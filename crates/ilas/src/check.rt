@@ -66,6 +66,7 @@ impl IlasCheck {
         }
         let period = self.link.shape().period();
         let last = 4 * period - 1;
+        // The sequence has ended.
         if last < self.place {
             return self.state;
         }
