@@ -1,0 +1,4 @@
+pub mod FramePlaces
+pub mod Replacing
+pub mod RestoringSteps
+pub mod RoundTrip

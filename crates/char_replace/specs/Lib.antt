@@ -1,0 +1,4 @@
+pub mod Replacement
+pub mod Restoring
+pub mod ReplaceLaws
+pub mod Kept

@@ -1,0 +1,39 @@
+//! What ends at a place of a multiframe.
+ghost use Rattle.std.specs.Prelude.{ℕ, ◌≡◌, ◌%◌, ◌+◌, ◌==◌};
+ghost use Rattle.link_params.specs.Numbers.{period};
+ghost use Rattle.char_replace.specs.Kept.{IsSerial};
+ghost use Rattle.char_replace.specs.Replacement.{ends_multiframe, is_data};
+
+use code_8b10b::Char;
+use link_params::Params;
+
+/// /A/, K28.3.
+pub(crate) const ALIGNMENT_A: u8 = 0x7C;
+
+/// /F/, K28.7.
+pub(crate) const ALIGNMENT_F: u8 = 0xFC;
+
+/// Whether a frame ends at this place of a multiframe.
+pub(crate) fn is_frame_end(params: &Params, place: u32) -> bool
+    requires { IsSerial params.now }
+    ensures { (x : ℕ) → place ≡ x % period params.now → result ≡ (x % params.now.f + 1 == params.now.f) }
+{
+    place % params.f + 1 == params.f
+}
+
+/// Whether the multiframe ends at this place of it.
+pub(crate) fn is_multiframe_end(params: &Params, place: u32) -> bool
+    requires { IsSerial params.now }
+    ensures { (x : ℕ) → place ≡ x % period params.now → result ≡ ends_multiframe params.now x }
+{
+    place == params.f * params.k - 1
+}
+
+pub(crate) fn is_data(c: Char) -> bool
+    ensures { result ≡ is_data c }
+{
+    match c {
+        Char::Data(_) => true,
+        Char::Control(_) => false,
+    }
+}
