@@ -80,11 +80,13 @@ other-at g count words octets are from out len each q in_frame none =
 
 -- the frame from its octets
 pub is_frame : (p : Params) → broken_law p ≡ None → (words out : List ℕ) → length out ≡ p.l * p.f
+    → ((k : ℕ) → k < length out → slice_index out k < 256)
     → ((k : ℕ) → k < length out → HasOctet (grouping p) words k (slice_index out k)) → IsFrame p words out
-is_frame p legal words out len each =
+is_frame p legal words out len below each =
     let g : Grouping = grouping p in
     let are = groups_fit p legal in record {
       whole = len;
+      below = λ k lt. below k (omega arith);
       bits = λ r b in_words in_word.
           ap (frame_bit out) (place-groups p r b in_words) ∙ word_bit-at (grouping p) (groups p) (p.m * p.s) (p.l * p.f) are words out len each r b in_words in_word;
       others = λ q in_frame none. other-at (grouping p) (groups p) (p.m * p.s) (p.l * p.f) are words out len each q in_frame
@@ -128,8 +130,9 @@ octets_within g p e legal words octets some all r lt =
     omega arith
 
 pub is_frame_of : (g : Grouping) (p : Params) → g ≡ grouping p → broken_law p ≡ None → (words out : List ℕ) → length out ≡ p.l * p.f
+    → ((k : ℕ) → k < length out → slice_index out k < 256)
     → ((k : ℕ) → k < length out → HasOctet g words k (slice_index out k)) → IsFrame p words out
-is_frame_of g p e legal words out len each = is_frame p legal words out len (λ k lt i in_octet. let h = each k lt i in_octet in rw e at h)
+is_frame_of g p e legal words out len below each = is_frame p legal words out len below (λ k lt i in_octet. let h = each k lt i in_octet in rw e at h)
 
 pub are_words_of : (g : Grouping) (p : Params) → g ≡ grouping p → broken_law p ≡ None → (octets words : List ℕ) → length words ≡ p.m * p.s
     → ((r : ℕ) → r < length words → slice_index words r < 2 ^ g.used)

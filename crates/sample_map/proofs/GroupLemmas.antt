@@ -54,3 +54,10 @@ octet_more g words out k octet lt here before j below i in_octet = elim (cases_l
   | inl low ↦ rw (get_or-set_other out k j octet 0 (λ e. omega arith)) (before j low i in_octet)
   | inr high ↦ let e : j ≡ k = omega arith in rw (e, get_or-set_same out k octet 0 lt) (here i in_octet)
 ]
+
+pub below_more : (out : List ℕ) (k octet : ℕ) → k < length out → octet < 256
+    → ((j : ℕ) → j < k → get_or out j 0 < 256) → (j : ℕ) → j < k + 1 → get_or (set out k octet) j 0 < 256
+below_more out k octet lt here before j below = elim (cases_lt j k) [
+  | inl low ↦ rw (get_or-set_other out k j octet 0 (λ e. omega arith)) (before j low)
+  | inr high ↦ let e : j ≡ k = omega arith in rw (e, get_or-set_same out k octet 0 lt) here
+]

@@ -25,6 +25,7 @@ frame_bit octets q = bit_at (slice_index octets (q / 8)) (7 - q % 8)
 -- these octets are the frame of these words: the bits of the words at their places, and 0 at all others
 pub record IsFrame (p : Params) (words octets : List ℕ) : Type 0 where
   pub whole : length octets ≡ p.l * p.f
+  pub below : (k : ℕ) → k < p.l * p.f → slice_index octets k < 256
   pub bits : (r b : ℕ) → r < p.m * p.s → b < p.np → frame_bit octets (place p r b) ≡ word_bit p (slice_index words r) b
   pub others : (q : ℕ) → q < 8 * (p.l * p.f) → ((r b : ℕ) → r < p.m * p.s → b < p.np → place p r b ≡ q → ⊥) → frame_bit octets q ≡ 0
 

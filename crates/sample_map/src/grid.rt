@@ -74,6 +74,7 @@ impl Grid {
         requires holds { Holds (sizes self.now) words.now cursor }
         requires group { (cursor.group + 1) * self.now.words ≤ length words.now }
         requires below { (r : ℕ) → r < length words.now → slice_index words.now r < 2 ^ self.now.used }
+        ensures below { result.0 < 256 }
         ensures octet { (i : ℕ) → i < 8 → bit_at result.0 (7 - i) ≡ group_bit (sizes self.now) words.now cursor.group (8 * cursor.place + i) }
         ensures holds { Holds (sizes self.now) words.now result.1 }
         ensures next { result.1.group * self.now.octets + result.1.place ≡ cursor.group * self.now.octets + cursor.place + 1 }
@@ -128,7 +129,8 @@ impl Grid {
     pub(crate) fn write_octets(&self, words: &[u32], out: &mut [u8])
         requires within { (k : ℕ) → k < length out.old → (k / self.now.octets + 1) * self.now.words ≤ length words.now }
         requires below { (r : ℕ) → r < length words.now → slice_index words.now r < 2 ^ self.now.used }
-        ensures { (k : ℕ) → k < length out.new → HasOctet (sizes self.now) words.now k (slice_index out.new k) }
+        ensures below { (k : ℕ) → k < length out.new → slice_index out.new k < 256 }
+        ensures octets { (k : ℕ) → k < length out.new → HasOctet (sizes self.now) words.now k (slice_index out.new k) }
     {
         let mut cursor = Cursor::start(0);
         for octet in out.iter_mut() {

@@ -1,7 +1,7 @@
 use Rattle.std.proofs.Common.{◌≡◌, ℕ, ◌+◌, ◌/◌, ◌∙◌, arith, ap, sym}
 use Rattle.std.proofs.lemmas.Nat.{div-mul-add}
 use Rattle.sample_map.specs.Grids.{sizes}
-use Rattle.sample_map.proofs.GroupLemmas.{has_octet, octet_more}
+use Rattle.sample_map.proofs.GroupLemmas.{below_more, has_octet, octet_more}
 use Rattle.sample_map.proofs.grid.Grid.write_octets.Goals as goal
 
 pub octet_at-value-requires-clause-group : goal.octet_at-value-requires-clause-group
@@ -23,5 +23,6 @@ loop-octet-preserved c =
     record {
       place = c.octet_at-value.ensures.next ∙ ap (λ x. x + 1) place;
       holds = c.octet_at-value.ensures.holds;
+      below = below_more c.loop-octet.out k c.octet_at-value.result.0 (omega arith) c.octet_at-value.ensures.below c.loop-octet.invariant.below;
       written = octet_more (sizes c.args.self.now) c.args.words.now c.loop-octet.out k c.octet_at-value.result.0 (omega arith) here c.loop-octet.invariant.written;
     }

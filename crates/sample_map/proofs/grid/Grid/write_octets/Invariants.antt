@@ -8,5 +8,6 @@ abbrev pub invariant-loop-octet : goal.invariant-loop-octet
 invariant-loop-octet l = record {
   place : l.cursor.group * l.self.octets + l.cursor.place ≡ l.octet-index;
   holds : Holds (sizes l.self) l.words l.cursor;
+  below : (j : ℕ) → j < l.octet-index → get_or l.out j 0 < 256;
   written : (j : ℕ) → j < l.octet-index → HasOctet (sizes l.self) l.words j (get_or l.out j 0);
 }

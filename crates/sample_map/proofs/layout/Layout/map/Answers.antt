@@ -15,4 +15,4 @@ pub returns : goal.returns
 returns c =
     let e : sizes c.self.inside.grid ≡ grouping c.args.self.now = c.self.invariant.0 ∙ ap grouping c.self.view_is in
     let legal : broken_law c.args.self.now ≡ None = rw c.self.view_is at c.self.invariant.1 in
-    is_frame_of (sizes c.self.inside.grid) c.args.self.now e legal c.args.words.now c.write_octets.new.out (omega arith) c.write_octets.ensures
+    is_frame_of (sizes c.self.inside.grid) c.args.self.now e legal c.args.words.now c.write_octets.new.out (omega arith) c.write_octets.ensures.below c.write_octets.ensures.octets
