@@ -1,0 +1,2 @@
+pub mod LineBits
+pub mod Lines
