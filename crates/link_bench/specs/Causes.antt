@@ -16,7 +16,11 @@ pub record Ends : Type 0 where
 
 -- nothing was read
 abbrev pub ReadNothing : Ends → Ends → Type 0
-ReadNothing old new = new.left ≡ old.left
+ReadNothing old new = (new.left ≡ old.left) × (new.reads_failed ≡ old.reads_failed)
+
+-- nothing was written
+abbrev pub WroteNothing : Ends → Ends → Type 0
+WroteNothing old new = (new.written ≡ old.written) × (new.writes_failed ≡ old.writes_failed)
 
 -- the input was read to its end, and was these bytes
 pub record ReadWhole (old new : Ends) (bytes : List ℕ) : Type 0 where
@@ -42,13 +46,13 @@ Causes BadWords asked old new = (asked ≡ None) × ReadNothing old new × Wrote
 Causes BadScenario asked old new = (j : Job) × (asked ≡ Some j) × (bytes : List ℕ) × ReadWhole old new bytes
     × (b : Refusal) × (reads j bytes ≡ Err b) × Wrote old new (bad_line b)
 Causes ReadFault asked old new = (j : Job) × (asked ≡ Some j) × Rose old.reads_failed new.reads_failed
-    × (given : List ℕ) × Gave old.left new.left given × (length given ≤ limit) × (new.written ≡ old.written)
+    × (given : List ℕ) × Gave old.left new.left given × (length given ≤ limit) × WroteNothing old new
 Causes TooLong asked old new = (j : Job) × (asked ≡ Some j)
-    × (given : List ℕ) × Gave old.left new.left given × (limit < length given) × (new.written ≡ old.written)
+    × (given : List ℕ) × Gave old.left new.left given × (limit < length given) × WroteNothing old new
 Causes WriteFault asked old new = Rose old.writes_failed new.writes_failed
     × (((asked ≡ None) × ReadNothing old new × WrotePrefix old new usage)
     ⊎ ((j : Job) × (asked ≡ Some j) × (bytes : List ℕ) × ReadWhole old new bytes × (due : List ℕ) × IsDue j bytes due × WrotePrefix old new due))
-Causes NoMemory asked old new = new.written ≡ old.written
+Causes NoMemory asked old new = WroteNothing old new
 
 -- where the words are accepted, the input is told, short enough and accepted, and neither count rose, the job is done or
 -- memory ran out

@@ -1,4 +1,5 @@
--- The laws of a link's parameters, 1 to 12 (JESD204B.01 clause 5.1, transport layer, and 8.3, link configuration).
+-- The laws of a link's parameters, 1 to 12 (JESD204B.01 clause 5.1, transport layer, and 8.3, link
+-- configuration; the formulas for F and all limits are this project's own).
 -- Code: the first broken law is sought in order, with early returns.
 use Rattle.std.specs.Prelude.{ℕ, ◌+◌, ◌-◌, ◌*◌, ◌/◌, ◌%◌, ◌==◌, ◌&&◌, ◌||◌, nat_le, min, Bool, true, false, List, [], ◌∷◌, Option, Some, None, if◌then◌else◌}
 use Rattle.link_params.specs.declared.fields.Params.{Params}

@@ -1,5 +1,6 @@
 -- The numbers of a link, in ticks where nothing else is said. A tick is one character a lane with 8b/10b lanes, and one
 -- block a lane with 64b/66b lanes.
+-- (JESD204B.01 clause 6, deterministic latency; the window, the wait for a check and the bound are this project's own.)
 -- Code: the latency is found by arithmetic, and not as a least number.
 use Rattle.std.specs.Prelude.{ℕ, ◌+◌, ◌-◌, ◌*◌, ◌%◌, ◌==◌, Bool, if◌then◌else◌, unwrap_or}
 use Rattle.jesd_base.specs.Search.{first_from}
@@ -48,6 +49,7 @@ latency p t = lat_ticks p t * octets_per_tick p
 abbrev pub depth : Params → Timing → ℕ
 depth p t = lat_ticks p t - wait p - t.w_lo + 1
 
--- within so many ticks of a hunt's beginning a frame has been delivered
+-- the ticks from a hunt's beginning within which a running link is to deliver, where its line is undisturbed and its edges and
+-- lanes meet their windows
 abbrev pub bound : Params → Timing → ℕ
 bound p t = t.sysref_period + 32 * period p + 8 * wait p + 256

@@ -1,4 +1,4 @@
--- The laws of a link's timing, 13 to 17.
+-- The laws of a link's timing, 13 to 17 (this project's own).
 -- Code: the first broken law is sought in order, with early returns.
 use Rattle.std.specs.Prelude.{ℕ, ◌+◌, ◌*◌, ◌%◌, ◌==◌, ◌&&◌, nat_le, nat_lt, Bool, List, [], ◌∷◌, Option}
 use Rattle.link_params.specs.declared.fields.Params.{Params}

@@ -106,7 +106,8 @@ impl Link {
         self.lat_ticks() - self.wait() - self.timing.w_lo + 1
     }
 
-    /// Within so many ticks of a hunt's beginning a frame has been delivered.
+    /// The ticks from a hunt's beginning within which a running link is to deliver a frame, where its line is
+    /// undisturbed and its edges and lanes meet their windows. This is the number alone.
     pub fn bound(&self) -> u32
         ensures value { result ≡ bound self.now.params self.now.timing }
         ensures bound { result < 2 ^ 21 }
