@@ -1,12 +1,12 @@
 -- Lists of bits and their numbers, and the least place.
-use Rattle.std.proofs.Common.{◌≡◌, ℕ, zero, suc, ◌+◌, ◌-◌, ◌*◌, ◌/◌, ◌%◌, ◌^◌, ◌<◌, ◌≤◌, ◌==◌, Bool, true, false, List, [], ◌∷◌, length, Some, None, refl, sym, ◌∙◌, ap, ap₂, inl, inr, zero-add, length-append, arith}
-use Rattle.std.proofs.Math.Nat.{pow-suc, suc-add}
-use Rattle.std.proofs.lemmas.Nat.{pow-add, mod-pow-add}
+use Rattle.std.proofs.Common.{◌≡◌, ℕ, zero, suc, ◌+◌, ◌-◌, ◌*◌, ◌/◌, ◌%◌, ◌^◌, ◌<◌, ◌≤◌, ◌==◌, ◌++◌, Bool, true, false, List, [], ◌∷◌, length, Some, None, refl, sym, ◌∙◌, ap, ap₂, inl, inr, zero-add, length-append, arith}
+use Rattle.std.proofs.Math.Nat.{pow-suc, suc-add, mod-lt, div-mul-le_self, mod-eq-sub-div-mul}
+use Rattle.std.proofs.lemmas.Nat.{pow-add, pow_pos, mod-pow-add}
 use Rattle.std.proofs.lemmas.Nat.Bits.{bit_at_cat_low, bit_at_cat_high, bit_at-lt}
 use Rattle.std.proofs.lemmas.Bool.{cases_Bool, cases_lt, true≢false}
 use Rattle.std.specs.Int.{bit_at}
-use Rattle.jesd_base.specs.Bits.{bit, bits, value}
-use Rattle.jesd_base.specs.BitLaws.{BitsLength, ValueOfBits, BitsOfValue, ValueBelow, ValueOfAppend, BitsOfBoth}
+use Rattle.jesd_base.specs.Bits.{bit, bits, value, zeros}
+use Rattle.jesd_base.specs.BitLaws.{BitsLength, ValueOfBits, BitsOfValue, ValueBelow, ValueOfAppend, BitsOfBoth, BitsOfParts, ZerosLength}
 use Rattle.jesd_base.specs.Search.{first_from, IsLeast, FindsLeast, FindsNone}
 
 pub pow_double : (n : ℕ) → 2 ^ suc n ≡ 2 * 2 ^ n
@@ -80,6 +80,20 @@ bits_of_both (suc m) n x y lt =
     let e : m + n - n ≡ m = omega arith in
     let first : bit_at (x * 2 ^ n + y) (m + n) ≡ bit_at x m = bit_at_cat_high x n y (m + n) lt (omega arith) ∙ ap (bit_at x) e in
     rw (suc-add m n) (ap₂ {C = List Bool} (λ b r. b ∷ r) (ap (λ v. v == 1) first) (bits_of_both m n x y lt))
+
+pub bits_of_parts : BitsOfParts
+unfolding bits
+bits_of_parts m n x =
+    let below = div-mul-le_self x (2 ^ n) in
+    let rest = mod-eq-sub-div-mul x (2 ^ n) in
+    let e : x ≡ x / 2 ^ n * 2 ^ n + x % 2 ^ n = omega arith in
+    let low : bits n x ≡ bits n (x % 2 ^ n) = ap (bits n) e ∙ bits-high n n (x / 2 ^ n) (x % 2 ^ n) (omega arith) in
+    ap (bits (m + n)) e ∙ bits_of_both m n (x / 2 ^ n) (x % 2 ^ n) (mod-lt x (pow_pos n)) ∙ ap (λ r. bits m (x / 2 ^ n) ++ r) (sym low)
+
+pub zeros_length : ZerosLength
+unfolding zeros
+zeros_length zero = refl
+zeros_length (suc n) = ap suc (zeros_length n)
 
 -- ---- the least place
 

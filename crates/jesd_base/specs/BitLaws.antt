@@ -1,6 +1,6 @@
 -- Laws of bits and numbers.
-use Rattle.std.specs.Prelude.{◌≡◌, ℕ, ◌+◌, ◌*◌, ◌%◌, ◌^◌, ◌<◌, Bool, List, ◌++◌, length}
-use Rattle.jesd_base.specs.Bits.{bits, value}
+use Rattle.std.specs.Prelude.{◌≡◌, ℕ, ◌+◌, ◌*◌, ◌/◌, ◌%◌, ◌^◌, ◌<◌, Bool, List, ◌++◌, length}
+use Rattle.jesd_base.specs.Bits.{bits, value, zeros}
 
 abbrev pub BitsLength : Type 0
 BitsLength = (n x : ℕ) → length (bits n x) ≡ n
@@ -24,3 +24,10 @@ ValueOfAppend = (xs ys : List Bool) → value (xs ++ ys) ≡ value xs * 2 ^ leng
 -- the bits of a number that is put together from two
 abbrev pub BitsOfBoth : Type 0
 BitsOfBoth = (m n x y : ℕ) → y < 2 ^ n → bits (m + n) (x * 2 ^ n + y) ≡ bits m x ++ bits n y
+
+-- the bits of a number in two parts
+abbrev pub BitsOfParts : Type 0
+BitsOfParts = (m n x : ℕ) → bits (m + n) x ≡ bits m (x / 2 ^ n) ++ bits n x
+
+abbrev pub ZerosLength : Type 0
+ZerosLength = (n : ℕ) → length (zeros n) ≡ n

@@ -1,5 +1,5 @@
 //! Laws of bits, numbers and long division.
-ghost use Rattle.jesd_base.specs.BitLaws.{BitsLength, BitsOfBoth, BitsOfValue, ValueBelow, ValueOfAppend, ValueOfBits};
+ghost use Rattle.jesd_base.specs.BitLaws.{BitsLength, BitsOfBoth, BitsOfParts, BitsOfValue, ValueBelow, ValueOfAppend, ValueOfBits, ZerosLength};
 ghost use Rattle.jesd_base.specs.DivisionLaws.{DivisionIsShifting, RemainderGoesOn, RemainderIsLinear, RemainderLength, SumIsXor, ZerosInFront};
 ghost use Rattle.jesd_base.specs.Search.{FindsLeast, FindsNone};
 
@@ -11,6 +11,8 @@ pub fn bits_and_numbers()
     ensures below { ValueBelow }
     ensures append { ValueOfAppend }
     ensures both { BitsOfBoth }
+    ensures parts { BitsOfParts }
+    ensures zeros { ZerosLength }
     ensures least { FindsLeast }
     ensures none { FindsNone }
 {}

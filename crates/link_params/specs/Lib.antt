@@ -4,3 +4,4 @@ pub mod TimingLaws
 pub mod Links
 pub mod Sizes
 pub mod Config
+pub mod Lanes
