@@ -71,6 +71,7 @@ impl Hunt {
     /// there: no clause says which bits it keeps after that answer.
     pub fn push(&mut self, word: u16) -> Option<Lock>
         requires { word < 1024 }
+        ensures rest { IfSome result (λ l. l.rest < 10) }
         ensures answer { (taken : List Bool) → HasHunted self.old taken → result ≡ found (taken ++ bits 10 word) }
         ensures hunts_on { (taken : List Bool) → HasHunted self.old taken → result ≡ None → HasHunted self.new (taken ++ bits 10 word) }
     {
@@ -87,7 +88,8 @@ impl Hunt {
 fn lock_in(window: u64, count: u8) -> Option<Lock>
     requires window { window < 2 ^ 49 }
     requires count { count ≤ 49 }
-    ensures { result ≡ found (bits count window) }
+    ensures rest { IfSome result (λ l. l.rest < 10) }
+    ensures answer { result ≡ found (bits count window) }
 {
     bits_and_numbers();
     let rest = phase_of(window)?;

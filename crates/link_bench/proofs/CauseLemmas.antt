@@ -1,23 +1,42 @@
 -- What was read, and the causes of answers.
-use Rattle.std.proofs.Common.{◌≡◌, ◌∙◌, ℕ, List, ◌++◌, Option, Some, None, Ok, Err, refl, sym, ap}
+use Rattle.std.proofs.Common.{◌≡◌, ◌∙◌, ◌<◌, ◌≤◌, ℕ, true, false, nat_lt, List, ◌++◌, Option, Some, None, Ok, Err, IsTrue, is_some, refl, sym, ap, arith}
 use Rattle.std.specs.Prelude.{Result}
 use Rattle.std.proofs.lemmas.List.{append-nil}
+use Rattle.std.proofs.lemmas.Bool.{ltb-true, ltb-false}
+use Rattle.link_params.specs.Links.{Link}
 use Rattle.jesd_base.specs.Streams.{Gave, IsAtEnd}
 use Rattle.scenario.specs.declared.kind.Job.{Job}
 use Rattle.scenario.specs.declared.kind.Job.TheVariants as job
 use Rattle.scenario.specs.declared.scenario_type.Scenario.{Scenario}
 use Rattle.scenario.specs.declared.fault.ScenarioFault.TheVariants as failed
 use Rattle.scenario.specs.Answer.{Answers}
+use Rattle.scenario.specs.Plans.{Plan, plan_of, plan_with}
 use Rattle.scenario.specs.Reads.{Seen, Refusal, bad_at, reads}
-use Rattle.link_bench.specs.Jobs.{IsText}
-use Rattle.link_bench.specs.Scenarios.{IsLines}
+use Rattle.link_bench.specs.Jobs.{IsText, alarms_in, alarms_of}
+use Rattle.link_bench.specs.Scenarios.{IsLines, alarms_for}
 
--- an accepted input, and the lines of its scenario
+-- a scenario with a link has a plan
+pub plan-some : (s : Scenario) → IsTrue (is_some s.link) → (plan : Plan) × (plan_of s ≡ Some plan)
+plan-some s e = planned s.link s e
+  where
+    planned : (o : Option Link) (s : Scenario) → IsTrue (is_some o) → (plan : Plan) × (plan_with o s ≡ Some plan)
+    planned None s e = cc e
+    planned (Some k) s e = (_, refl)
+
+-- an accepted input, its alarms, and the lines of its scenario
 pub read-ok : (due : Result Seen Refusal) (s : Scenario) (j : Job) (text : List ℕ) → Answers due (Ok s) → IsLines j s text
-    → (seen : Seen) × (due ≡ Ok seen) × IsText j seen text
-read-ok (Ok seen) s job.Map text a lines = (seen, refl, (s.shape, a.0, rw a.1 lines))
-read-ok (Ok seen) s job.Unmap text a lines = (seen, refl, (s.shape, a.0, rw a.2 lines))
+    → (seen : Seen) × (due ≡ Ok seen) × (alarms_for j s ≡ alarms_of j seen) × IsText j seen text
+read-ok (Ok seen) s job.Map text a lines = (seen, refl, refl, (s.shape, a.shape, rw a.words lines))
+read-ok (Ok seen) s job.Unmap text a lines = (seen, refl, refl, (s.shape, a.shape, rw a.octets lines))
+read-ok (Ok seen) s job.Run text a (plan, is, lines) = (seen, refl, ap alarms_in (sym a.plan), (plan, a.plan ∙ is, lines))
 read-ok (Err b) s j text a lines = absurd a
+
+-- no alarm, or some
+pub no-alarm : (n m : ℕ) → n ≡ m → nat_lt 0 n ≡ false → m ≡ 0
+no-alarm n m e none = let few : n ≤ 0 = ltb-false 0 n none in omega arith
+
+pub some-alarm : (n m : ℕ) → n ≡ m → nat_lt 0 n ≡ true → 0 < m
+some-alarm n m e some = let more : 0 < n = ltb-true 0 n some in omega arith
 
 -- a refused input
 pub read-bad : (due : Result Seen Refusal) (r c a : ℕ) → Answers due (Err (failed.Bad r c a)) → due ≡ Err (bad_at r c a)

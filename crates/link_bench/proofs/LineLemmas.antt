@@ -5,7 +5,8 @@ use Rattle.std.proofs.Math.Nat.{pow-suc, mul-le-mul_right}
 use Rattle.std.proofs.lemmas.Nat.{pow-add}
 use Rattle.std.proofs.lemmas.List.{flat_map_more, drop_all, take_all, append-nil}
 use Rattle.std.specs.List.{flat_map}
-use Rattle.link_bench.specs.Lines.{pieces, Each, hex_digit, hex_digits}
+use Rattle.scenario.specs.Digits.{hex_digit, hex_digits}
+use Rattle.link_bench.specs.Lines.{pieces, Each}
 
 -- one piece more
 pub pieces-more : {A : Type 0} (n m : ℕ) (xs : List A) → pieces n (m + 1) xs ≡ pieces n m xs ++ take n (drop (m * n) xs) ∷ []

@@ -8,14 +8,18 @@ use Rattle.bench_words.specs.declared.asked.Words.{Words}
 use Rattle.scenario.specs.declared.kind.Job.{Job}
 use Rattle.scenario.specs.declared.kind.Job.TheVariants as job
 use Rattle.scenario.specs.Answer.{shape_of}
+use Rattle.scenario.specs.Plans.{Plan, plan_read}
 use Rattle.scenario.specs.Reads.{Seen, Refusal, reads}
+use Rattle.lane_b.specs.Received.{lanes_b}
+use Rattle.link_run.specs.Run.{run}
+use Rattle.link_run.specs.Report.{report, totals}
 use Rattle.link_bench.specs.Lines.{IsMapped, IsUnmapped}
 
--- the job of a task; `run` and `gen` are not built yet
+-- the job of a task; `gen` is not built yet
 abbrev pub job_of : Task → Option Job
 job_of task.Map = Some job.Map
 job_of task.Unmap = Some job.Unmap
-job_of task.Run = None
+job_of task.Run = Some job.Run
 job_of task.Gen = None
 
 -- the job that the words ask for, None where they are refused
@@ -37,6 +41,18 @@ bad_line b = codes "bad," ++ (decimal b.row ++ (codes "," ++ (decimal b.cause ++
 abbrev pub IsText : Job → Seen → List ℕ → Type 0
 IsText job.Map seen text = (p : Params) × (shape_of seen.stage ≡ Some p) × IsMapped p seen.words text
 IsText job.Unmap seen text = (p : Params) × (shape_of seen.stage ≡ Some p) × IsUnmapped p seen.octets text
+IsText job.Run seen text = (plan : Plan) × (plan_read seen ≡ Some plan) × (text ≡ report lanes_b plan)
+
+-- how many alarms the run of a plan raises
+abbrev pub alarms_in : Option Plan → ℕ
+alarms_in None = 0
+alarms_in (Some plan) = (totals plan (run lanes_b plan plan.ticks)).alarms
+
+-- how many alarms a job raises; only a run raises any
+abbrev pub alarms_of : Job → Seen → ℕ
+alarms_of job.Map seen = 0
+alarms_of job.Unmap seen = 0
+alarms_of job.Run seen = alarms_in (plan_read seen)
 
 -- what is due for an input that was read to its end
 abbrev pub IsDueFor : Job → Result Seen Refusal → List ℕ → Type 0

@@ -1,10 +1,10 @@
 -- The lines that the jobs `map` and `unmap` write.
 -- Code: appended to one buffer, a lane or a word at a time.
-use Rattle.std.specs.Prelude.{◌≡◌, ℕ, zero, suc, ◌+◌, ◌*◌, ◌/◌, ◌%◌, ◌^◌, nat_lt, if◌then◌else◌, List, [], ◌∷◌, ◌++◌, length, take, drop, codes}
+use Rattle.std.specs.Prelude.{◌≡◌, ℕ, zero, suc, ◌*◌, ◌/◌, List, [], ◌∷◌, ◌++◌, length, take, drop, codes}
 use Rattle.std.specs.List.{flat_map}
 use Rattle.hex.specs.Hex.{encode_lower}
 use Rattle.link_params.specs.declared.fields.Params.{Params}
-use Rattle.link_params.specs.Laws.{ceil}
+use Rattle.scenario.specs.Digits.{hex_digits, word_digits}
 use Rattle.sample_map.specs.Layout.{IsFrame, AreWords}
 
 -- m pieces of n items, from the front on
@@ -18,19 +18,6 @@ Each R [] [] = Unit {0}
 Each R (x ∷ xs) (y ∷ ys) = R x y × Each R xs ys
 Each R [] (y ∷ ys) = ⊥
 Each R (x ∷ xs) [] = ⊥
-
--- a lower-case hexadecimal digit
-abbrev pub hex_digit : ℕ → ℕ
-hex_digit d = if nat_lt d 10 then 48 + d else 87 + d
-
--- the low n hexadecimal digits of a number, the most significant first
-unfoldable pub hex_digits : ℕ → ℕ → List ℕ
-hex_digits zero x = []
-hex_digits (suc n) x = hex_digit (x / 16 ^ n % 16) ∷ hex_digits n x
-
--- the digits of a word
-abbrev pub word_digits : Params → ℕ
-word_digits p = ceil (p.n + p.cs) 4
 
 -- `octets,H,H` with one H a lane, its F octets
 abbrev pub octets_line : Params → List ℕ → List ℕ

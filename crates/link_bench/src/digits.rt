@@ -1,7 +1,7 @@
 //! Hexadecimal digits of words and lanes.
 ghost use Rattle.std.specs.Prelude.{◌≡◌, ◌≤◌, ◌∷◌, ◌++◌, ◌*◌, length, OnOk};
 ghost use Rattle.hex.specs.Hex.{encode_lower};
-ghost use Rattle.link_bench.specs.Lines.{hex_digit, hex_digits};
+ghost use Rattle.scenario.specs.Digits.{hex_digit, hex_digits};
 
 use std::alloc::AllocError;
 

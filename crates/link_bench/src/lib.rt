@@ -11,6 +11,8 @@ mod digits;
 mod lines;
 #[cfg(test)]
 mod tests;
+#[cfg(test)]
+mod tests_run;
 mod top;
 
 pub use top::bench;

@@ -5,7 +5,11 @@ use std::alloc::Global;
 use std::test::Fail;
 
 /// What comes of `words` on `input`: the status and the bytes written.
-fn outcome(alloc: Global, words: &[&str], input: &[u8]) -> Result<(Status, Vec<u8>), Fail> {
+pub(crate) fn outcome(
+    alloc: Global,
+    words: &[&str],
+    input: &[u8],
+) -> Result<(Status, Vec<u8>), Fail> {
     let mut source = MemSource::new(input.to_vec(alloc)?, 4096, Vec::new(alloc));
     let mut sink = MemSink::open(alloc, 4096, 4096, Vec::new(alloc))
         .ok()
@@ -21,7 +25,7 @@ const USAGE: &[u8] = b"usage: jesd_bench JOB [--workers N] [--number N]\n";
 #[test]
 fn worked_examples(rt: HostRuntime) -> Result<(), Fail> {
     let alloc = rt.alloc();
-    let table: [(&[&str], &[u8], Status, &[u8]); 17] = [
+    let table: [(&[&str], &[u8], Status, &[u8]); 20] = [
         (
             &["map"],
             TWELVE_BITS,
@@ -86,7 +90,25 @@ fn worked_examples(rt: HostRuntime) -> Result<(), Fail> {
             USAGE,
         ),
         (&[], TWELVE_BITS, Status::BadWords, USAGE),
-        (&["run"], TWELVE_BITS, Status::BadWords, USAGE),
+        (&["run"], TWELVE_BITS, Status::BadScenario, b"bad,3,3,0\n"),
+        (
+            &["run"],
+            b"jesd,1\nlink,b,1,1,2,1,16,16,0,0,1,9,0\ntiming,18,2,8,8,0,1,1,1,1\nrun,4,none\n",
+            Status::Done,
+            b"link,18,1,1,1,850\nhunt,0\nend,4,0,0,0,0,0,0,0\n",
+        ),
+        (
+            &["run"],
+            b"jesd,1\nlink,b,1,1,2,1,16,16,0,0,1,9,0\ntiming,18,2,8,8,0,1,1,1,1\nrun,24,none\njitter,rx,1,32\n",
+            Status::Alarmed,
+            b"link,18,1,1,1,850\nhunt,0\nalarm,23,sysref_phase,rx,2\nend,24,0,0,0,0,0,1,0\n",
+        ),
+        (
+            &["run"],
+            b"jesd,1\nlink,ccrc,1,1,2,1,16,16,0,0,1,0,1\n",
+            Status::BadScenario,
+            b"bad,2,12,1\n",
+        ),
         (&["gen"], TWELVE_BITS, Status::BadWords, USAGE),
         (
             &["--", "map"],

@@ -1,4 +1,5 @@
 pub mod BitLemmas
+pub mod DueLemmas
 pub mod FrameLemmas
 pub mod GroupLemmas
 pub mod PlaceLemmas

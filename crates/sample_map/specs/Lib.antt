@@ -3,3 +3,4 @@ pub mod LayoutLaws
 pub mod Groups
 pub mod Grids
 pub mod Cursors
+pub mod Frames

@@ -164,3 +164,93 @@ fn lays_out_and_reads_back(rt: HostRuntime) -> Result<(), Fail> {
     }
     Ok(())
 }
+
+/// The next state of a linear congruential generator.
+fn next(state: u64) -> u64 {
+    state
+        .wrapping_mul(6_364_136_223_846_793_005)
+        .wrapping_add(1_442_695_040_888_963_407)
+}
+
+/// Fills words with the top bits of the states that follow a seed.
+fn fill(words: &mut [u32], bits: u32, seed: u64)
+    requires some { 0 < bits }
+    requires few { bits ≤ 32 }
+{
+    let mut state = seed;
+    for word in words.iter_mut() {
+        state = next(state);
+        *word = (state >> 32) as u32 >> (32 - bits);
+    }
+}
+
+/// Whether the words of one frame are read back.
+fn frame_comes_back(alloc: Global, params: &Params, seed: u64) -> Result<bool, Fail> {
+    let shape = params.check().ok().ok_or("legal")?;
+    let mut words = vec![in alloc; 0u32; shape.frame_words() as usize]?;
+    fill(&mut words, shape.word_bits(), seed);
+    if !are_below(&words, shape.word_bits()) {
+        return Ok(false);
+    }
+    let layout = Layout::new(&shape);
+    let size = (shape.lanes() * shape.frame_octets()) as usize;
+    let mut octets = vec![in alloc; 0xffu8; size]?;
+    layout.map(&words, &mut octets);
+    let mut read = vec![in alloc; 0xffffffffu32; words.len()]?;
+    layout.unmap(&octets, &mut read);
+    Ok(read == words)
+}
+
+/// Whether a few frames are read back.
+fn frames_come_back(alloc: Global, params: &Params, seed: u64) -> Result<bool, Fail> {
+    let mut all = true;
+    for frame in 0..4u64 {
+        all &= frame_comes_back(alloc, params, seed.wrapping_add(frame))?;
+    }
+    Ok(all)
+}
+
+/// A link of so many lanes and converters, octets and samples of a frame.
+fn sized(l: u32, m: u32, f: u32, s: u32) -> Params {
+    Params {
+        l,
+        m,
+        f,
+        s,
+        ..small()
+    }
+}
+
+/// The same link with words of so many bits, of which so many are the sample's and control bits.
+fn worded(link: Params, np: u32, n: u32, cs: u32, hd: bool) -> Params {
+    Params {
+        np,
+        n,
+        cs,
+        hd,
+        ..link
+    }
+}
+
+#[test]
+fn random_words_come_back(rt: HostRuntime) -> Result<(), Fail> {
+    let table: [Params; 10] = [
+        worded(sized(1, 1, 2, 11), 1, 1, 0, false),
+        worded(sized(2, 2, 2, 5), 3, 2, 1, false),
+        worded(sized(1, 2, 7, 4), 7, 5, 1, false),
+        worded(sized(4, 4, 2, 2), 8, 8, 0, false),
+        worded(sized(3, 1, 1, 2), 11, 9, 1, true),
+        worded(sized(2, 2, 6, 3), 16, 12, 2, false),
+        worded(sized(3, 4, 3, 1), 17, 14, 3, true),
+        worded(sized(3, 3, 9, 3), 24, 20, 1, false),
+        worded(sized(4, 5, 15, 3), 31, 28, 3, true),
+        worded(sized(2, 3, 6, 1), 32, 32, 0, true),
+    ];
+    for (at, params) in table.iter().enumerate() {
+        assert!(rt;
+            frames_come_back(rt.alloc(), params, 4 * at as u64)?,
+            "at {at}"
+        );
+    }
+    Ok(())
+}

@@ -3,11 +3,13 @@ use Rattle.std.proofs.Common.{◌≡◌, ◌+◌, ◌∙◌, ◌==◌, ℕ, Bool
 use Rattle.std.proofs.Math.Seq.{drop-append_seam}
 use Rattle.std.proofs.lemmas.List.{take_all}
 use Rattle.link_params.specs.declared.fields.Params.{Params}
+use Rattle.link_params.specs.declared.fields.Timing.{Timing}
 use Rattle.link_params.specs.Laws.{broken_law}
+use Rattle.link_params.specs.TimingLaws.{broken_timing}
 use Rattle.scenario.specs.declared.fault.Fault.{Fault}
 use Rattle.scenario.specs.Text.{Text}
 use Rattle.scenario.specs.Check.{first, fault, lowest, Checks, basic_fault, fault_of}
-use Rattle.scenario.specs.Reads.{link_law, params_of, words_of, word_or_0, word_limit}
+use Rattle.scenario.specs.Reads.{link_law, params_of, timing_law, timing_of, words_of, word_or_0, word_limit}
 
 -- a word that is not too large
 abbrev pub is_word_of : Params → Text → Bool
@@ -41,6 +43,10 @@ basic-forms n c f e forms = let same : (n == c.count + 1) ≡ true = eq-eqb n (c
 pub link_law-is : (ts : List Text) (p : Params) (o : Option ℕ) → p ≡ params_of ts → broken_law p ≡ o → link_law ts ≡ o
 unfolding link_law
 link_law-is ts p o e h = ap broken_law (sym e) ∙ h
+
+pub timing_law-is : (p : Params) (ts : List Text) (t : Timing) (o : Option ℕ) → t ≡ timing_of ts → broken_timing p t ≡ o → timing_law p ts ≡ o
+unfolding timing_law
+timing_law-is p ts t o e h = ap (broken_timing p) (sym e) ∙ h
 
 pub words-below : (ts : List Text) (limit : ℕ) → map (λ w. nat_lt w limit) (map word_or_0 ts) ≡ map (λ t. nat_lt (word_or_0 t) limit) ts
 words-below [] limit = refl

@@ -3,5 +3,10 @@ pub mod FieldLemmas
 pub mod ReadLemmas
 pub mod CheckLemmas
 pub mod RowLemmas
+pub mod FlipLemmas
+pub mod OrderLemmas
+pub mod InputLemmas
 pub mod ScenarioLemmas
 pub mod SoundLemmas
+pub mod LineLemmas
+pub mod SourceLemmas

@@ -21,7 +21,7 @@ pub record Came (j : Job) (rows : List (List (List ℕ))) (n : ℕ) (seen : Seen
   pub sound : IsSound seen
 
 pub came-none : (j : Job) (seen : Seen) → seen ≡ nothing → Came j [] 0 seen
-came-none j seen e = record { goes_on = λ more. ap (λ s. over j 0 (Ok s) more) (sym e); sound = rw e (refl, refl) }
+came-none j seen e = record { goes_on = λ more. ap (λ s. over j 0 (Ok s) more) (sym e); sound = rw e (refl, refl, (refl, refl, refl)) }
 
 -- one record after those
 behind : (rows : List (List (List ℕ))) (row : List (List ℕ)) (more : List (List Text)) → texts (rows ++ row ∷ []) ++ more ≡ texts rows ++ map stripped row ∷ more

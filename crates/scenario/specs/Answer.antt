@@ -12,10 +12,19 @@ use Rattle.scenario.specs.declared.stage.Stage.{Stage}
 use Rattle.scenario.specs.declared.stage.Stage.TheVariants as stage
 use Rattle.scenario.specs.Inputs.{input_words}
 use Rattle.scenario.specs.Reads.{Seen, Refusal, bad_at}
+use Rattle.scenario.specs.Plans.{plan_read, plan_of}
 
 -- what the reader keeps
 abbrev pub seen_of : Reading → Seen
-seen_of r = record { version = r.version; stage = r.stage; words = r.words.items; octets = r.octets.items }
+seen_of r = record {
+  version = r.version;
+  stage = r.stage;
+  words = r.words.items;
+  octets = r.octets.items;
+  events = r.events.items;
+  jitters = r.jitters.items;
+  flips = r.flips.items;
+}
 
 -- one step of the reader is a step of the definition; want of memory is free
 abbrev pub StepsTo : Result Seen Fault → Seen → Result (Unit {0}) RecordFault → Type 0
@@ -27,11 +36,19 @@ StepsTo due new (Err NoMemory) = Unit {0}
 abbrev pub shape_of : Stage → Option Params
 shape_of (stage.Frames p) = Some p
 shape_of (stage.Octets p) = Some p
+shape_of (stage.Body b) = Some b.link.params
 shape_of s = None
+
+-- a scenario holds what the records said: the shape, and the words, the octets or the plan of a run
+pub record Holds (s : Scenario) (seen : Seen) : Type 0 where
+  pub shape : shape_of seen.stage ≡ Some s.shape
+  pub words : seen.words ≡ input_words s.input
+  pub octets : seen.octets ≡ s.octets.items
+  pub plan : plan_read seen ≡ plan_of s
 
 -- the scenario that the records spell, or the first bad record; want of memory is free
 abbrev pub Answers : Result Seen Refusal → Result Scenario ScenarioFault → Type 0
-Answers (Ok seen) (Ok s) = (shape_of seen.stage ≡ Some s.shape) × (seen.words ≡ input_words s.input) × (seen.octets ≡ s.octets.items)
+Answers (Ok seen) (Ok s) = Holds s seen
 Answers (Err b) (Err (failed.Bad r c a)) = b ≡ bad_at r c a
 Answers due (Err failed.NoMemory) = Unit {0}
 Answers due other = ⊥

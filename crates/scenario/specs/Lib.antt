@@ -3,4 +3,9 @@ pub mod Check
 pub mod Reads
 pub mod Sound
 pub mod Inputs
+pub mod Plans
+pub mod Limits
 pub mod Answer
+pub mod Digits
+pub mod ReportLines
+pub mod TextRooms

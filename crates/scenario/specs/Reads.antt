@@ -1,7 +1,7 @@
 -- What an input says to a job, or the first thing that is wrong with it: a table of checks for each kind of record, and a
 -- fold over the records.
 -- Code: one record at a time, with an early exit.
-use Rattle.std.specs.Prelude.{◌≡◌, ℕ, zero, suc, ◌+◌, ◌*◌, ◌^◌, ◌==◌, ◌&&◌, nat_lt, nat_le, Bool, true, false, List, [], ◌∷◌, ◌++◌, length, map, Option, Some, None, Result, Ok, Err, if◌then◌else◌, codes, is_some, unwrap_or, option_map, drop}
+use Rattle.std.specs.Prelude.{◌≡◌, ℕ, zero, suc, ◌+◌, ◌-◌, ◌*◌, ◌/◌, ◌^◌, ◌==◌, ◌&&◌, ◌||◌, not, nat_lt, nat_le, Bool, true, false, List, [], ◌∷◌, ◌++◌, length, map, Option, Some, None, Result, Ok, Err, if◌then◌else◌, codes, is_some, is_none, unwrap_or, option_map, drop, ℤ, pos, neg_ℤ, int_le}
 use Rattle.std.specs.Str.{bytes_eq}
 use Rattle.std.specs.List.{list_all, slice_index_or}
 use Rattle.csv.specs.Reading.{default_config, records, strip_bom}
@@ -9,15 +9,29 @@ use Rattle.csv.specs.Records.{Row, fields_of}
 use Rattle.link_params.specs.declared.fields.Params.{Params}
 use Rattle.link_params.specs.declared.fields.Mode.{Mode}
 use Rattle.link_params.specs.declared.fields.Mode.TheVariants as mode
-use Rattle.link_params.specs.Laws.{broken_law}
+use Rattle.link_params.specs.declared.fields.Timing.{Timing}
+use Rattle.link_params.specs.declared.alarms.Device.{Device}
+use Rattle.link_params.specs.declared.alarms.Device.TheVariants as device
+use Rattle.link_params.specs.Links.{Link}
+use Rattle.link_params.specs.Laws.{broken_law, is_b}
+use Rattle.link_params.specs.Numbers.{octets_per_tick, period, width}
+use Rattle.link_params.specs.TimingLaws.{broken_timing}
 use Rattle.scenario.specs.declared.fault.Fault.{Fault}
 use Rattle.scenario.specs.declared.kind.Job.{Job}
 use Rattle.scenario.specs.declared.kind.Job.TheVariants as job
 use Rattle.scenario.specs.declared.kind.Kind.{Kind}
 use Rattle.scenario.specs.declared.kind.Kind.TheVariants as kind
+use Rattle.scenario.specs.declared.plan.Print.{Print}
+use Rattle.scenario.specs.declared.plan.Print.TheVariants as print
+use Rattle.scenario.specs.declared.plan.What.TheVariants as what
+use Rattle.scenario.specs.declared.plan.Event.{Event}
+use Rattle.scenario.specs.declared.plan.Jitter.{Jitter}
+use Rattle.scenario.specs.declared.plan.Flip.{Flip}
+use Rattle.scenario.specs.declared.stage.Ramp.{Ramp}
+use Rattle.scenario.specs.declared.stage.Setup.{Setup}
 use Rattle.scenario.specs.declared.stage.Stage.{Stage}
 use Rattle.scenario.specs.declared.stage.Stage.TheVariants as stage
-use Rattle.scenario.specs.Text.{Text, stripped, number, word, is_hex, octets_of}
+use Rattle.scenario.specs.Text.{Text, stripped, number, word, signed, is_hex, octets_of}
 use Rattle.scenario.specs.Check.{fault, unless, lowest, first, Checks, fault_of, or_fault}
 
 -- ---- records and fields
@@ -67,6 +81,12 @@ find_named text (p ∷ ps) = if bytes_eq text p.0 then Some p.1 else find_named 
 abbrev pub mode_of : Text → Option Mode
 mode_of text = find_named text ((codes "b", mode.B) ∷ (codes "ccrc", mode.CCrc) ∷ (codes "cfec", mode.CFec) ∷ [])
 
+abbrev pub print_of : Text → Option Print
+print_of text = find_named text ((codes "none", print.None) ∷ (codes "frames", print.Frames) ∷ (codes "all", print.All) ∷ [])
+
+abbrev pub device_of : Text → Option Device
+device_of text = find_named text ((codes "tx", device.Tx) ∷ (codes "rx", device.Rx) ∷ [])
+
 -- the kinds of both versions
 abbrev pub kinds_1 : List (Text × Kind)
 kinds_1 = (codes "jesd", kind.Jesd) ∷ (codes "link", kind.Link) ∷ (codes "timing", kind.Timing) ∷ (codes "run", kind.Run)
@@ -107,14 +127,75 @@ params_of fields = record {
 unfoldable pub link_law : List Text → Option ℕ
 link_law fields = broken_law (params_of fields)
 
--- `link`: mode, L, M, F, S, N, N', CS, HD, SCR, K, E; HD and SCR are 0 or 1, and the laws hold
-abbrev pub link_checks : List Text → Checks
-link_checks fields = record {
+abbrev pub is_run : Job → Bool
+is_run job.Map = false
+is_run job.Unmap = false
+is_run job.Run = true
+
+-- `run` is built for 8b/10b lanes so far
+abbrev pub is_built : Job → Params → Bool
+is_built j p = not (is_run j) || is_b p.mode
+
+-- `link`: mode, L, M, F, S, N, N', CS, HD, SCR, K, E; HD and SCR are 0 or 1, the laws hold, and the job is built
+abbrev pub link_checks : Job → List Text → Checks
+link_checks j fields = record {
   count = 12;
   forms = is_some (mode_of (field fields 1)) ∷ are_numbers 2 11 fields;
   ranges = true ∷ true ∷ true ∷ true ∷ true ∷ true ∷ true ∷ true ∷ nat_le (num fields 9) 1 ∷ nat_le (num fields 10) 1 ∷ [];
-  more = option_map (fault 8) (link_law fields) ∷ [];
+  more = option_map (fault 8) (link_law fields) ∷ unless (is_built j (params_of fields)) (fault 12 1) ∷ [];
 }
+
+abbrev pub timing_of : List Text → Timing
+timing_of fields = record {
+  sysref_period = num fields 1;
+  sysref_start = num fields 2;
+  tx_skew = num fields 3;
+  rx_skew = num fields 4;
+  tolerance = num fields 5;
+  rbd = num fields 6;
+  sync_delay = num fields 7;
+  w_lo = num fields 8;
+  w_hi = num fields 9;
+}
+
+-- the first broken law of the timing
+unfoldable pub timing_law : Params → List Text → Option ℕ
+timing_law p fields = broken_timing p (timing_of fields)
+
+-- `timing`: sysref_period, sysref_start, tx_skew, rx_skew, tolerance, rbd, sync_delay, w_lo, w_hi
+abbrev pub timing_checks : Params → List Text → Checks
+timing_checks p fields = record {
+  count = 9;
+  forms = are_numbers 1 9 fields;
+  ranges = [];
+  more = option_map (fault 8) (timing_law p fields) ∷ [];
+}
+
+abbrev pub print_or_none : List Text → Print
+print_or_none fields = unwrap_or (print_of (field fields 2)) print.None
+
+-- how often a frame is printed at most
+abbrev pub copies : Print → ℕ
+copies print.None = 0
+copies print.Frames = 1
+copies print.All = 2
+
+-- the octets of all lanes, and the printed words, stay within their limits
+abbrev pub is_small_run : Params → ℕ → Print → Bool
+is_small_run p ticks how = nat_le (ticks * p.l * octets_per_tick p) 4194304
+    && nat_le (copies how * (ticks * octets_per_tick p / p.f) * (p.m * p.s)) 2097152
+
+-- `run`: ticks, print
+abbrev pub run_checks : Params → List Text → Checks
+run_checks p fields = record {
+  count = 2;
+  forms = is_some (number (field fields 1)) ∷ is_some (print_of (field fields 2)) ∷ [];
+  ranges = (nat_le 1 (num fields 1) && nat_le (num fields 1) 1048576) ∷ [];
+  more = unless (is_small_run p (num fields 1) (print_or_none fields)) (fault 9 1) ∷ [];
+}
+
+abbrev pub setup_of : Link → List Text → Setup
+setup_of k fields = record { link = k; ticks = num fields 1; print = print_or_none fields; ramp = None }
 
 -- words are below this
 abbrev pub word_limit : Params → ℕ
@@ -149,18 +230,120 @@ abbrev pub all_octets : List Text → List ℕ
 all_octets [] = []
 all_octets (f ∷ fs) = octets_of f ++ all_octets fs
 
+-- `ramp`: start word, step word, as decimal numbers
+abbrev pub ramp_checks : Params → List Text → Checks
+ramp_checks p fields = record {
+  count = 2;
+  forms = are_numbers 1 2 fields;
+  ranges = nat_lt (num fields 1) (word_limit p) ∷ nat_lt (num fields 2) (word_limit p) ∷ [];
+  more = [];
+}
+
+abbrev pub ramp_of : List Text → Ramp
+ramp_of fields = record { start = num fields 1; step = num fields 2 }
+
+-- with one more, n events and jitters are not too many
+abbrev pub events_fit : ℕ → Option Fault
+events_fit n = unless (nat_lt n 4096) (fault 10 0)
+
+-- `delay`: tick, lane, bits
+abbrev pub delay_checks : ℕ → Setup → List Text → Checks
+delay_checks n b fields = record {
+  count = 3;
+  forms = are_numbers 1 3 fields;
+  ranges = nat_lt (num fields 1) b.ticks ∷ nat_lt (num fields 2) b.link.params.l
+      ∷ nat_le (num fields 3) ((period b.link.params - 1) * width b.link.params) ∷ [];
+  more = events_fit n ∷ [];
+}
+
+abbrev pub delay_of : List Text → Event
+delay_of fields = record { tick = num fields 1; what = what.Delay (num fields 2) (num fields 3) }
+
+-- `dead`: tick, lane, 0 or 1
+abbrev pub dead_checks : ℕ → Setup → List Text → Checks
+dead_checks n b fields = record {
+  count = 3;
+  forms = are_numbers 1 3 fields;
+  ranges = nat_lt (num fields 1) b.ticks ∷ nat_lt (num fields 2) b.link.params.l ∷ nat_le (num fields 3) 1 ∷ [];
+  more = events_fit n ∷ [];
+}
+
+abbrev pub dead_of : List Text → Event
+dead_of fields = record { tick = num fields 1; what = what.Dead (num fields 2) (num fields 3 == 1) }
+
+-- `reset`: tick, device
+abbrev pub reset_checks : ℕ → Setup → List Text → Checks
+reset_checks n b fields = record {
+  count = 2;
+  forms = is_some (number (field fields 1)) ∷ is_some (device_of (field fields 2)) ∷ [];
+  ranges = nat_lt (num fields 1) b.ticks ∷ [];
+  more = events_fit n ∷ [];
+}
+
+abbrev pub device_or_tx : Text → Device
+device_or_tx text = unwrap_or (device_of text) device.Tx
+
+abbrev pub reset_of : List Text → Event
+reset_of fields = record { tick = num fields 1; what = what.Reset (device_or_tx (field fields 2)) }
+
+abbrev pub signed_or_0 : Text → ℤ
+signed_or_0 text = unwrap_or (signed text) (pos 0)
+
+-- `jitter`: device, edge, signed sixteenths
+abbrev pub jitter_checks : ℕ → List Text → Checks
+jitter_checks n fields = record {
+  count = 3;
+  forms = is_some (device_of (field fields 1)) ∷ is_some (number (field fields 2)) ∷ is_some (signed (field fields 3)) ∷ [];
+  ranges = true ∷ nat_le (num fields 2) 1048576
+      ∷ (int_le (neg_ℤ (pos 32)) (signed_or_0 (field fields 3)) && int_le (signed_or_0 (field fields 3)) (pos 32)) ∷ [];
+  more = events_fit n ∷ [];
+}
+
+abbrev pub jitter_of : List Text → Jitter
+jitter_of fields = record { device = device_or_tx (field fields 1); edge = num fields 2; sixteenths = signed_or_0 (field fields 3) }
+
+-- the counts of flips together
+abbrev pub flipped : List Flip → ℕ
+flipped [] = 0
+flipped (f ∷ fs) = f.count + flipped fs
+
+-- the received bits of a lane in the run
+abbrev pub run_bits : Setup → ℕ
+run_bits b = width b.link.params * b.ticks
+
+-- `flip`: lane, first received bit, count; n bits are flipped already
+abbrev pub flip_checks : ℕ → Setup → List Text → Checks
+flip_checks n b fields = record {
+  count = 3;
+  forms = are_numbers 1 3 fields;
+  ranges = nat_lt (num fields 1) b.link.params.l ∷ nat_lt (num fields 2) (run_bits b)
+      ∷ (nat_le 1 (num fields 3) && nat_le (num fields 2 + num fields 3) (run_bits b)) ∷ [];
+  more = unless (nat_le (n + num fields 3) 65536) (fault 10 0) ∷ [];
+}
+
+abbrev pub flip_of : List Text → Flip
+flip_of fields = record { lane = num fields 1; first = num fields 2; count = num fields 3 }
+
 -- ---- one record
 
 -- what the records so far say: the version of the format (0 before the first record), the place in the order of records with
--- what is fixed there, the words of all frames, and the octets of all records `octets`
+-- what is fixed there, the words of all frames, the octets of all records `octets`, and what the records of each kind for a run
+-- say, in their order
 pub record Seen : Type 0 where
   pub version : ℕ
   pub stage : Stage
   pub words : List ℕ
   pub octets : List ℕ
+  pub events : List Event
+  pub jitters : List Jitter
+  pub flips : List Flip
 
 abbrev pub nothing : Seen
-nothing = record { version = 0; stage = stage.Version; words = []; octets = [] }
+nothing = record { version = 0; stage = stage.Version; words = []; octets = []; events = []; jitters = []; flips = [] }
+
+-- events and jitters count together
+abbrev pub events_so_far : Seen → ℕ
+events_so_far seen = length seen.events + length seen.jitters
 
 -- a record of an allowed kind: its checks, then what it adds
 abbrev pub add : List Text → Checks → Seen → Result Seen Fault
@@ -174,12 +357,43 @@ misplaced = Err (fault 3 0)
 abbrev pub after_link : Job → Params → Stage
 after_link job.Map p = stage.Frames p
 after_link job.Unmap p = stage.Octets p
+after_link job.Run p = stage.Timing p
+
+abbrev pub with_event : Seen → Event → Seen
+with_event seen e = record seen { events = seen.events ++ e ∷ [] }
+
+-- a kind that is not built yet
+abbrev pub unbuilt : Result Seen Fault
+unbuilt = Err (fault 12 0)
+
+-- a record after `run`; a ramp stands at most once, and not together with frames
+abbrev pub in_body : Seen → List Text → Setup → Kind → Result Seen Fault
+in_body seen fields b kind.Frame = if is_none b.ramp
+    then add fields (frame_checks b.link.params fields) (record seen { words = seen.words ++ words_of fields })
+    else misplaced
+in_body seen fields b kind.Ramp = if is_none b.ramp && (length seen.words == 0)
+    then add fields (ramp_checks b.link.params fields) (record seen { stage = stage.Body (record b { ramp = Some (ramp_of fields) }) })
+    else misplaced
+in_body seen fields b kind.Delay = add fields (delay_checks (events_so_far seen) b fields) (with_event seen (delay_of fields))
+in_body seen fields b kind.Reset = add fields (reset_checks (events_so_far seen) b fields) (with_event seen (reset_of fields))
+in_body seen fields b kind.Dead = add fields (dead_checks (events_so_far seen) b fields) (with_event seen (dead_of fields))
+in_body seen fields b kind.Jitter = add fields (jitter_checks (events_so_far seen) fields) (record seen { jitters = seen.jitters ++ jitter_of fields ∷ [] })
+in_body seen fields b kind.Flip = add fields (flip_checks (flipped seen.flips) b fields) (record seen { flips = seen.flips ++ flip_of fields ∷ [] })
+in_body seen fields b kind.Wire = unbuilt
+in_body seen fields b kind.Route = unbuilt
+in_body seen fields b kind.Polarity = unbuilt
+in_body seen fields b kind.Subclass = unbuilt
+in_body seen fields b k = misplaced
 
 -- a record of a known kind, at a place in the order
 abbrev pub of_kind : Seen → List Text → Stage → Kind → Result Seen Fault
-of_kind seen fields (stage.Link j) kind.Link = add fields (link_checks fields) (record seen { stage = after_link j (params_of fields) })
+of_kind seen fields (stage.Link j) kind.Link = add fields (link_checks j fields) (record seen { stage = after_link j (params_of fields) })
 of_kind seen fields (stage.Frames p) kind.Frame = add fields (frame_checks p fields) (record seen { words = seen.words ++ words_of fields })
 of_kind seen fields (stage.Octets p) kind.Octets = add fields (octets_checks p fields) (record seen { octets = seen.octets ++ all_octets (drop 1 fields) })
+of_kind seen fields (stage.Timing p) kind.Timing = add fields (timing_checks p fields)
+    (record seen { stage = stage.Run (record { params = p; timing = timing_of fields }) })
+of_kind seen fields (stage.Run k) kind.Run = add fields (run_checks k.params fields) (record seen { stage = stage.Body (setup_of k fields) })
+of_kind seen fields (stage.Body b) k = in_body seen fields b k
 of_kind seen fields s k = misplaced
 
 abbrev pub of_known : Seen → List Text → Option Kind → Result Seen Fault
@@ -226,6 +440,7 @@ bad_at r c a = record { row = r; cause = c; at = a }
 abbrev pub is_whole : Stage → Bool
 is_whole (stage.Frames p) = true
 is_whole (stage.Octets p) = true
+is_whole (stage.Body b) = true
 is_whole s = false
 
 -- the end of the records, after n of them

@@ -1,5 +1,5 @@
 -- The written forms of fields.
-use Rattle.std.specs.Prelude.{ℕ, ◌==◌, ◌&&◌, ◌||◌, nat_le, Bool, List, [], ◌∷◌, length, Option, Some, None, if◌then◌else◌, ◌+◌, ◌*◌}
+use Rattle.std.specs.Prelude.{ℕ, ◌==◌, ◌&&◌, ◌||◌, nat_le, Bool, List, [], ◌∷◌, length, Option, Some, None, if◌then◌else◌, ◌+◌, ◌*◌, ℤ, pos, neg_ℤ, option_map}
 use Rattle.std.specs.Char.{is_digit, digit_value}
 use Rattle.std.specs.List.{list_all}
 use Rattle.std.specs.Str.Parse.{digits_value_after}
@@ -51,6 +51,11 @@ number text = if has_length 1 10 text then at_most 4294967295 (value_after 10 0 
 -- 1 to 8 hexadecimal digits of either case
 abbrev pub word : Text → Option ℕ
 word text = if has_length 1 8 text then value_after 16 0 text else None
+
+-- a number with at most one minus before its digits
+abbrev pub signed : Text → Option ℤ
+signed [] = None
+signed (c ∷ rest) = if c == 45 then option_map (λ n. neg_ℤ (pos n)) (number rest) else option_map pos (number (c ∷ rest))
 
 -- a hexadecimal digit of either case
 abbrev pub is_hex : ℕ → Bool

@@ -28,8 +28,11 @@ pub enum ScenarioFault {
     /// | 5 | the number of fields | that number, the kind included |
     /// | 6 | a field is not written as its column asks | the field, the kind being 0 |
     /// | 7 | a number is out of its range | the field |
-    /// | 8 | the parameters of the link break a law | the law, 1 to 12 |
+    /// | 8 | the parameters or the timing of the link break a law | the law, 1 to 17 |
+    /// | 9 | the run is too large | the field: 1 |
+    /// | 10 | events and jitters, or the counts of flips, are too many | 0 |
     /// | 11 | required records are missing; `row` is one more than the records | 0 |
+    /// | 12 | not built: a run of 64b/66b lanes, or a kind of version 2 | the field: 1 for the lanes, 0 for the kind |
     Bad { row: u32, cause: u8, at: u32 },
     /// Memory ran out.
     NoMemory,

@@ -7,6 +7,8 @@ pub enum Job {
     Map,
     /// Take the words of frames out of the octets of lanes.
     Unmap,
+    /// Run the link.
+    Run,
 }
 
 /// The kind of a record: its field 0.

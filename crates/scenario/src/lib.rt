@@ -1,4 +1,4 @@
-//! Reads a scenario: the records of an input for the jobs `map` and `unmap`.
+//! Reads a scenario: the records of an input for the jobs `map`, `unmap` and `run`.
 //!
 //! ```text
 //! match read_scenario(alloc, Job::Map, b"jesd,1\nlink,b,1,1,1,1,8,8,0,0,0,17,0\nframe,a5\n") {
@@ -8,26 +8,47 @@
 //! }
 //! ```
 //!
-//! An input is CSV with no header row. The first record is `jesd,1` or `jesd,2`, the second is `link`, and then come records
-//! `frame` (for `map`) or `octets` (for `unmap`). Spaces and tabs round a field are no part of it. The first record that is
-//! wrong is refused with its number, the cause and the place in it.
+//! An input is CSV with no header row. The first record is `jesd,1` or `jesd,2`, the second is `link`. Then come records
+//! `frame` (for `map`) or `octets` (for `unmap`); for `run` one record `timing`, one record `run`, and the others in any
+//! order. Spaces and tabs round a field are no part of it. The first record that is wrong is refused with its number, the
+//! cause and the place in it.
 #![tactic(auto)]
 
+mod body;
+mod event;
 mod fault;
+mod finish;
+mod flip;
 mod frame;
 mod input;
+mod jitter;
 mod kind;
+mod line_text;
 mod link;
+mod plan;
+mod ramp;
+mod read;
 mod reading;
+mod report_row;
 mod row;
+mod run;
 mod scenario_type;
+mod source;
 mod stage;
+mod steps;
 #[cfg(test)]
 mod tests;
+#[cfg(test)]
+mod tests_text;
 mod text;
+mod timing;
 
 pub use fault::ScenarioFault;
 pub use input::Input;
 pub use kind::Job;
-pub use reading::read_scenario;
+pub use line_text::LineText;
+pub use plan::{Event, Flip, Jitter, Print, What};
+pub use read::read_scenario;
+pub use report_row::{Row, Totals};
 pub use scenario_type::Scenario;
+pub use source::source_frame;

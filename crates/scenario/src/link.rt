@@ -1,17 +1,20 @@
 //! The record `link`.
-ghost use Rattle.std.specs.Prelude.{◌≡◌, ◌≤◌, ◌<◌, ◌^◌, length};
+ghost use Rattle.std.specs.Prelude.{◌≡◌, ◌≤◌, ◌<◌, ◌^◌, ◌||◌, not, length};
+ghost use Rattle.link_params.specs.Laws.{is_b};
+ghost use Rattle.scenario.specs.declared.kind.Job.{Job as JobOf};
 ghost use Rattle.scenario.specs.Check.{ReadOr, fault_of, basic_fault};
-ghost use Rattle.scenario.specs.Reads.{texts_of, link_checks, params_of};
+ghost use Rattle.scenario.specs.Reads.{texts_of, is_run, link_checks, params_of};
 
 use crate::fault::Fault;
+use crate::kind::Job;
 use crate::row::{count, field_at, read_mode, read_numbers};
 use csv::ByteRecord;
-use link_params::{Params, Shape};
+use link_params::{Mode, Params, Shape};
 
 /// The parameters that a record `link` names, before their laws.
 fn read_params(row: &ByteRecord) -> Result<Params, Fault>
     requires { length (texts_of row.now) < 2 ^ 32 }
-    ensures { ReadOr (basic_fault (length (texts_of row.now)) (link_checks (texts_of row.now))) (params_of (texts_of row.now)) result }
+    ensures { (job : JobOf) → ReadOr (basic_fault (length (texts_of row.now)) (link_checks job (texts_of row.now))) (params_of (texts_of row.now)) result }
 {
     let fields = count(row);
     if fields != 13 {
@@ -48,14 +51,29 @@ fn read_params(row: &ByteRecord) -> Result<Params, Fault>
     })
 }
 
+/// Whether the job is built for lanes of this mode.
+fn is_built_job(job: Job, mode: Mode) -> bool
+    ensures { result ≡ (not (is_run job) || is_b mode) }
+{
+    match (job, mode) {
+        (Job::Run, Mode::CCrc | Mode::CFec) => false,
+        _ => true,
+    }
+}
+
 /// The shape that a record `link` names.
-pub fn read_link(row: &ByteRecord) -> Result<Shape, Fault>
+pub fn read_link(job: Job, row: &ByteRecord) -> Result<Shape, Fault>
     requires { length (texts_of row.now) < 2 ^ 32 }
-    ensures { ReadOr (fault_of (length (texts_of row.now)) (link_checks (texts_of row.now))) (params_of (texts_of row.now)) result }
+    ensures { ReadOr (fault_of (length (texts_of row.now)) (link_checks job (texts_of row.now))) (params_of (texts_of row.now)) result }
 {
     let params = read_params(row)?;
     match params.check() {
-        Ok(shape) => Ok(shape),
+        Ok(shape) => {
+            if !is_built_job(job, params.mode) {
+                return Err(Fault { cause: 12, at: 1 });
+            }
+            Ok(shape)
+        }
         Err(law) => Err(Fault {
             cause: 8,
             at: u32::from(law.0),

@@ -1,13 +1,14 @@
 //! The fields of one record.
 ghost use Rattle.std.specs.Prelude.{◌≡◌, ◌≤◌, ◌<◌, ◌^◌, ◌+◌, length};
 ghost use Rattle.std.specs.Str.{bytes_eq};
-ghost use Rattle.scenario.specs.Reads.{texts_of, field, ReadNumbers, mode_of, find_named, kinds_1, kinds_2, kind_of, version_of};
+ghost use Rattle.scenario.specs.Reads.{texts_of, field, ReadNumbers, mode_of, print_of, device_of, find_named, kinds_1, kinds_2, kind_of, version_of};
 
 use crate::fault::Fault;
 use crate::kind::Kind;
+use crate::plan::Print;
 use crate::text::{bare, read_number};
 use csv::ByteRecord;
-use link_params::Mode;
+use link_params::{Device, Mode};
 
 /// The field at a place, with no blanks at its ends; nothing where there is none.
 pub fn field_at(row: &ByteRecord, i: u32) -> &[u8]
@@ -51,6 +52,32 @@ pub fn read_mode(text: &[u8]) -> Option<Mode>
         b"b" => Some(Mode::B),
         b"ccrc" => Some(Mode::CCrc),
         b"cfec" => Some(Mode::CFec),
+        _ => None,
+    }
+}
+
+/// What is printed, by this name.
+pub fn read_print(text: &[u8]) -> Option<Print>
+    ensures { result ≡ print_of text.now }
+{
+    if is_named(text, b"none") {
+        Some(Print::None)
+    } else if is_named(text, b"frames") {
+        Some(Print::Frames)
+    } else if is_named(text, b"all") {
+        Some(Print::All)
+    } else {
+        None
+    }
+}
+
+/// The device of this name.
+pub fn read_device(text: &[u8]) -> Option<Device>
+    ensures { result ≡ device_of text.now }
+{
+    match text {
+        b"tx" => Some(Device::Tx),
+        b"rx" => Some(Device::Rx),
         _ => None,
     }
 }

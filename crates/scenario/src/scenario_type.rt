@@ -1,20 +1,52 @@
 //! A scenario.
-ghost use Rattle.std.specs.Prelude.{◌≡◌, ◌<◌, ◌+◌, ◌*◌, ◌%◌, ◌^◌, length, All};
+ghost use Rattle.std.specs.Prelude.{◌≡◌, ◌<◌, ◌≤◌, ◌+◌, ◌*◌, ◌/◌, ◌%◌, ◌^◌, length, All, IsTrue};
+ghost use Rattle.std.specs.List.Sorted.{IsNonDecreasingBy};
+ghost use Rattle.std.specs.Option.{ForSome};
+ghost use Rattle.scenario.specs.declared.plan.Event.{Event as EventValue};
+ghost use Rattle.link_params.specs.Numbers.{octets_per_tick};
 ghost use Rattle.scenario.specs.Inputs.{input_words};
+ghost use Rattle.scenario.specs.Reads.{copies, flipped};
+ghost use Rattle.scenario.specs.Limits.{event_fits, flip_fits, has_words, jitter_fits, ramp_fits};
 
 use crate::input::Input;
-use link_params::Shape;
+use crate::plan::{Event, Flip, Jitter, Print};
+use link_params::{Link, Shape};
 
-/// What an input says: a shape of frames, and what is to be mapped or unmapped.
+/// What an input says: a shape of frames, and what is to be mapped, unmapped or run.
 #[derive(Drop)]
 pub struct Scenario {
     /// The parameters of the link, which obey their laws.
     pub shape: Shape,
-    /// The words of the records `frame`: M·S for each frame, all below 2^(N+CS). None for `unmap`.
+    /// The link of a run; none for `map` and `unmap`.
+    pub link: Option<Link>,
+    /// The ticks of a run, at most 1,048,576; 0 for `map` and `unmap`.
+    pub ticks: u32,
+    /// The frames of a run that are printed.
+    pub print: Print,
+    /// The words that go in. For `map` those of the records `frame`, M·S for each frame, all below 2^(N+CS); none for `unmap`.
     pub input: Input,
-    /// The octets of the records `octets`: F of each lane for each record, lane after lane. None for `map`.
+    /// The octets of the records `octets`: F of each lane for each record, lane after lane. None but for `unmap`.
     pub octets: Vec<u8>,
+    /// The events of a run in the order of ticks, those of one tick in the order of their records.
+    pub events: Vec<Event>,
+    /// The jitters of a run, in the order of records; the last one for an edge of a device counts.
+    pub jitters: Vec<Jitter>,
+    /// The flips of a run. A bit that several cover is inverted where their number is odd.
+    pub flips: Vec<Flip>,
     pub ghost whole_frames: { length (input_words input) % (shape.m * shape.s) ≡ 0 },
     pub ghost words_fit: { All (λ w. w < 2 ^ (shape.n + shape.cs)) (input_words input) },
     pub ghost whole_octets: { length octets.items % (shape.l * shape.f) ≡ 0 },
+    pub ghost ramp_fits: { IsTrue (ramp_fits shape input) },
+    pub ghost few_ticks: { ticks ≤ 1048576 },
+    pub ghost few_octets: { ticks * shape.l * octets_per_tick shape ≤ 4194304 },
+    pub ghost few_words: { copies print * (ticks * octets_per_tick shape / shape.f) * (shape.m * shape.s) ≤ 2097152 },
+    pub ghost events_fit: { All (λ e. IsTrue (event_fits shape ticks e)) events.items },
+    pub ghost jitters_fit: { All (λ j. IsTrue (jitter_fits j)) jitters.items },
+    pub ghost flips_fit: { All (λ f. IsTrue (flip_fits shape ticks f)) flips.items },
+    pub ghost events_ordered: { IsNonDecreasingBy (λ (e : EventValue). e.tick) events.items },
+    pub ghost few_events: { length events.items + length jitters.items ≤ 4096 },
+    pub ghost few_flips: { flipped flips.items ≤ 65536 },
+    pub ghost same_shape: { ForSome link (λ k. k.params ≡ shape) },
+    pub ghost some_ticks: { ForSome link (λ k. 1 ≤ ticks) },
+    pub ghost some_words: { ForSome link (λ k. IsTrue (has_words input)) },
 }

@@ -1,6 +1,23 @@
 //! The place in the order of records.
 use crate::kind::Job;
-use link_params::Shape;
+use crate::plan::Print;
+use link_params::{Link, Shape};
+
+/// A ramp of words.
+#[derive(Clone, Copy)]
+pub struct Ramp {
+    pub start: u32,
+    pub step: u32,
+}
+
+/// What the records up to `run` fix, and the ramp once its record came.
+#[derive(Clone, Copy)]
+pub struct Setup {
+    pub link: Link,
+    pub ticks: u32,
+    pub print: Print,
+    pub ramp: Option<Ramp>,
+}
 
 /// The place in the order of records, with what is fixed there.
 #[derive(Clone, Copy)]
@@ -13,4 +30,10 @@ pub enum Stage {
     Frames(Shape),
     /// `unmap`: any number of records `octets`.
     Octets(Shape),
+    /// `run`: the record `timing` is next.
+    Timing(Shape),
+    /// `run`: the record `run` is next.
+    Run(Link),
+    /// `run`: any number of the other records.
+    Body(Setup),
 }

@@ -1,6 +1,7 @@
 //! Tests.
-use crate::{Input, Job, Scenario, ScenarioFault, read_scenario};
-use std::alloc::Global;
+use crate::{Event, Flip, Input, Jitter, Job, Print, Scenario, ScenarioFault, What, read_scenario};
+use link_params::Device;
+use std::alloc::{AllocError, Global};
 
 const MIB_4: usize = 4194304;
 
@@ -9,6 +10,13 @@ fn read(alloc: Global, job: Job, text: &[u8]) -> Result<Scenario, ScenarioFault>
         return Err(ScenarioFault::NoMemory);
     }
     read_scenario(alloc, job, text)
+}
+
+fn refusal(alloc: Global, job: Job, text: &[u8]) -> Option<(u32, u8, u32)> {
+    match read(alloc, job, text) {
+        Err(ScenarioFault::Bad { row, cause, at }) => Some((row, cause, at)),
+        _ => None,
+    }
 }
 
 #[test]
@@ -77,7 +85,10 @@ fn what_accepted_inputs_say(rt: HostRuntime) {
             assert!(rt; false, "refused");
             return;
         };
-        let Input::Frames(got) = &scenario.input;
+        let Input::Frames(got) = &scenario.input else {
+            assert!(rt; false, "no frames");
+            return;
+        };
         assert_eq!(rt; got.as_slice(), words);
         assert_eq!(rt; scenario.octets.as_slice(), octets);
     }
@@ -287,18 +298,215 @@ fn where_bad_inputs_are_wrong(rt: HostRuntime) {
             (3, 5, 3),
         ),
     ];
-    for (job, text, (row, cause, at)) in table {
-        let Err(
-            ScenarioFault::Bad {
-                row: got_row,
-                cause: got_cause,
-                at: got_at,
-            },
-        ) = read(alloc, job, text)
-        else {
-            assert!(rt; false, "bad,{row},{cause},{at} is wanted");
+    for (job, text, due) in table {
+        assert_eq!(rt; refusal(alloc, job, text), Some(due));
+    }
+}
+
+// A run of 1,000 ticks, each of 10 bits on one lane, with a period of 64 ticks. Its words have 16 bits.
+const RUN: &[u8] =
+    b"jesd,1\nlink,b,1,1,2,1,16,16,0,0,1,32,0\ntiming,128,2,8,120,7,30,5,20,30\nrun,1000,all\n";
+
+fn run_text(alloc: Global, more: &[u8], times: u32) -> Result<Vec<u8>, AllocError> {
+    let mut text = Vec::from_slice(alloc, RUN)?;
+    for _ in 0..times {
+        text.extend_from_slice(more)?;
+    }
+    Ok(text)
+}
+
+fn run_refusal(alloc: Global, more: &[u8], times: u32) -> Option<(u32, u8, u32)> {
+    match run_text(alloc, more, times) {
+        Ok(text) => refusal(alloc, Job::Run, &text),
+        Err(_) => None,
+    }
+}
+
+#[test]
+fn what_a_run_says(rt: HostRuntime) {
+    let more =
+        b"ramp,65535,3\ndelay,900,0,630\nreset,5,rx\njitter,tx,1048576,-32\nflip,0,9990,10\ndead,900,0,1\nreset,5,tx\njitter,rx,0,032\nflip,0,0,1\ndead,0,0,0\n";
+    let alloc = rt.alloc();
+    let Ok(text) = run_text(alloc, more, 1) else {
+        assert!(rt; false, "no memory");
+        return;
+    };
+    let Ok(scenario) = read(alloc, Job::Run, &text) else {
+        assert!(rt; false, "refused");
+        return;
+    };
+    let events = [
+        Event {
+            tick: 0,
+            what: What::Dead { lane: 0, on: false },
+        },
+        Event {
+            tick: 5,
+            what: What::Reset(Device::Rx),
+        },
+        Event {
+            tick: 5,
+            what: What::Reset(Device::Tx),
+        },
+        Event {
+            tick: 900,
+            what: What::Delay { lane: 0, bits: 630 },
+        },
+        Event {
+            tick: 900,
+            what: What::Dead { lane: 0, on: true },
+        },
+    ];
+    let jitters = [
+        Jitter {
+            device: Device::Tx,
+            edge: 1_048_576,
+            sixteenths: -32,
+        },
+        Jitter {
+            device: Device::Rx,
+            edge: 0,
+            sixteenths: 32,
+        },
+    ];
+    let flips = [
+        Flip {
+            lane: 0,
+            first: 9990,
+            count: 10,
+        },
+        Flip {
+            lane: 0,
+            first: 0,
+            count: 1,
+        },
+    ];
+    assert_eq!(rt; scenario.events.as_slice(), events.as_slice());
+    assert_eq!(rt; scenario.jitters.as_slice(), jitters.as_slice());
+    assert_eq!(rt; scenario.flips.as_slice(), flips.as_slice());
+    assert_eq!(rt; (scenario.ticks, scenario.print), (1000, Print::All));
+    assert_eq!(rt; start_and_step(&scenario), Some((65535, 3)));
+    assert_eq!(rt; first_edges(&scenario), Some((3, 10)));
+}
+
+fn start_and_step(scenario: &Scenario) -> Option<(u32, u32)> {
+    match &scenario.input {
+        Input::Ramp { start, step } => Some((*start, *step)),
+        Input::Frames(_) => None,
+    }
+}
+
+fn first_edges(scenario: &Scenario) -> Option<(u32, u32)> {
+    match &scenario.link {
+        Some(link) => Some((link.tx_edge(), link.rx_edge())),
+        None => None,
+    }
+}
+
+fn words_of_frames(scenario: &Scenario) -> &[u32] {
+    match &scenario.input {
+        Input::Ramp { .. } => &[],
+        Input::Frames(words) => words.as_slice(),
+    }
+}
+
+#[test]
+fn what_goes_into_a_run(rt: HostRuntime) {
+    let alloc = rt.alloc();
+    let table: [(&[u8], Option<(u32, u32)>, &[u32]); 3] = [
+        (b"", Some((0, 1)), &[]),
+        (b"ramp,7,0\n", Some((7, 0)), &[]),
+        (b"frame,7\nreset,0,tx\nframe,ffff\n", None, &[7, 0xffff]),
+    ];
+    for (more, ramp, words) in table {
+        let Ok(text) = run_text(alloc, more, 1) else {
+            assert!(rt; false, "no memory");
             return;
         };
-        assert_eq!(rt; (got_row, got_cause, got_at), (row, cause, at));
+        let Ok(scenario) = read(alloc, Job::Run, &text) else {
+            assert!(rt; false, "refused");
+            return;
+        };
+        assert_eq!(rt; start_and_step(&scenario), ramp);
+        assert_eq!(rt; words_of_frames(&scenario), words);
+    }
+}
+
+#[test]
+fn where_bad_runs_are_wrong(rt: HostRuntime) {
+    let alloc = rt.alloc();
+    let table: [(&[u8], (u32, u8, u32)); 10] = [
+        // not built for 64b/66b lanes; a broken law comes first
+        (b"jesd,1\nlink,ccrc,1,1,4,1,30,32,2,0,1,0,1\n", (2, 12, 1)),
+        (b"jesd,1\nlink,ccrc,1,1,3,1,24,24,0,0,1,0,1\n", (2, 8, 12)),
+        (
+            b"jesd,1\nlink,b,1,1,2,1,16,16,0,0,1,32,0\nrun,1000,all\n",
+            (3, 3, 0),
+        ),
+        (
+            b"jesd,1\nlink,b,1,1,2,1,16,16,0,0,1,32,0\ntiming,128,2,8,120,7,20,5,20,30\n",
+            (3, 8, 17),
+        ),
+        (
+            b"jesd,1\nlink,b,1,1,2,1,16,16,0,0,1,32,0\ntiming,128,2,8,120,7,30,5,20,30\nrun,0,all\n",
+            (4, 7, 1),
+        ),
+        (
+            b"jesd,1\nlink,b,1,1,2,1,16,16,0,0,1,32,0\ntiming,128,2,8,120,7,30,5,20,30\nrun,0,most\n",
+            (4, 6, 2),
+        ),
+        (
+            b"jesd,1\nlink,b,8,8,2,1,16,16,0,0,1,32,0\ntiming,128,2,8,120,7,30,5,20,30\nrun,1048576,none\n",
+            (4, 9, 1),
+        ),
+        // the end comes too soon
+        (b"jesd,1\nlink,b,1,1,2,1,16,16,0,0,1,32,0\n", (3, 11, 0)),
+        (
+            b"jesd,1\nlink,b,1,1,2,1,16,16,0,0,1,32,0\ntiming,128,2,8,120,7,30,5,20,30\n",
+            (4, 11, 0),
+        ),
+        // a kind that is not built
+        (
+            b"jesd,2\nlink,b,1,1,2,1,16,16,0,0,1,32,0\ntiming,128,2,8,120,7,30,5,20,30\nrun,1000,all\nwire,0\n",
+            (5, 12, 0),
+        ),
+    ];
+    for (text, due) in table {
+        assert_eq!(rt; refusal(alloc, Job::Run, text), Some(due));
+    }
+}
+
+#[test]
+fn where_records_of_a_run_are_wrong(rt: HostRuntime) {
+    let alloc = rt.alloc();
+    let table: [(&[u8], u32, (u32, u8, u32)); 24] = [
+        (b"link\n", 1, (5, 3, 0)),
+        (b"octets,00\n", 1, (5, 3, 0)),
+        (b"frame,1\nramp,0,1\n", 1, (6, 3, 0)),
+        (b"ramp,0,1\nframe,1\n", 1, (6, 3, 0)),
+        (b"ramp,0,1\n", 2, (6, 3, 0)),
+        (b"wire,0\n", 1, (5, 4, 0)),
+        (b"jitter,tx,0\n", 1, (5, 5, 3)),
+        (b"reset,0,x\n", 1, (5, 6, 2)),
+        (b"jitter,tx,0,--1\n", 1, (5, 6, 3)),
+        (b"jitter,tx,0,-\n", 1, (5, 6, 3)),
+        (b"ramp,65536,0\n", 1, (5, 7, 1)),
+        (b"ramp,0,65536\n", 1, (5, 7, 2)),
+        (b"delay,1000,0,0\n", 1, (5, 7, 1)),
+        (b"delay,999,1,0\n", 1, (5, 7, 2)),
+        (b"delay,999,0,631\n", 1, (5, 7, 3)),
+        (b"dead,0,0,2\n", 1, (5, 7, 3)),
+        (b"flip,0,10000,1\n", 1, (5, 7, 2)),
+        (b"flip,0,9990,11\n", 1, (5, 7, 3)),
+        (b"flip,0,0,0\n", 1, (5, 7, 3)),
+        (b"jitter,tx,1048577,0\n", 1, (5, 7, 2)),
+        (b"jitter,tx,0,33\n", 1, (5, 7, 3)),
+        (b"jitter,tx,0,-33\n", 1, (5, 7, 3)),
+        // the counts of all records
+        (b"reset,0,tx\njitter,tx,0,0\n", 2049, (4101, 10, 0)),
+        (b"flip,0,0,10000\n", 7, (11, 10, 0)),
+    ];
+    for (more, times, due) in table {
+        assert_eq!(rt; run_refusal(alloc, more, times), Some(due));
     }
 }

@@ -2,7 +2,7 @@
 ghost use Rattle.std.specs.Prelude.{◌≡◌, ◌≤◌, ◌<◌, ◌==◌, ◌||◌, ◌+◌, ◌++◌, length, OnOk, true, nat_le, ◌&&◌, ◌^◌, ◌*◌, IfSome};
 ghost use Rattle.std.specs.List.{list_all};
 ghost use Rattle.std.specs.Char.{digit_value};
-ghost use Rattle.scenario.specs.Text.{strip_start, strip_end, number, word, is_blank, is_hex, octets_of, value_after};
+ghost use Rattle.scenario.specs.Text.{strip_start, strip_end, number, signed, word, is_blank, is_hex, octets_of, value_after};
 
 use std::alloc::AllocError;
 
@@ -82,6 +82,22 @@ pub fn read_number(text: &[u8]) -> Option<u32>
         return None;
     }
     Some(value as u32)
+}
+
+/// A decimal number of at most ten digits, with at most one minus before them.
+pub fn read_signed(text: &[u8]) -> Option<i64>
+    ensures { result ≡ signed text.now }
+{
+    match text {
+        [b'-', digits @ ..] => match read_number(digits) {
+            Some(number) => Some(-i64::from(number)),
+            None => None,
+        },
+        _ => match read_number(text) {
+            Some(number) => Some(i64::from(number)),
+            None => None,
+        },
+    }
 }
 
 /// A word of at most eight hexadecimal digits.

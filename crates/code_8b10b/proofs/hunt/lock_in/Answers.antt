@@ -6,22 +6,22 @@ use Rattle.code_8b10b.proofs.Locks.{found-no_phase, found-early, found-others, n
 use Rattle.code_8b10b.proofs.Windows.{BitLaws, found-bits_commas, found-bits_other}
 use Rattle.code_8b10b.proofs.hunt.lock_in.Goals as goal
 
-pub returns-in_err-rest : goal.returns-in_err-rest
-returns-in_err-rest c =
+pub returns-in_err-rest-clause-answer : goal.returns-in_err-rest-clause-answer
+returns-in_err-rest-clause-answer c =
     let e = c.bits_and_numbers.ensures in
     let laws : BitLaws = record { value_of_bits = e.value_of_bits; bits_of_value = e.bits_of_value; bits_of_both = e.both } in
     let p = c.phase_of.ensures in
     c.from_residual.ensures ∙ sym (found-no_phase laws c.args.count c.args.window c.phase_of.result c.requires.count p.commas p.other_commas c.in_err-rest.was)
 
-pub returns-then-count-rest : goal.returns-then-count-rest
-returns-then-count-rest c =
+pub returns-then-count-rest-clause-answer : goal.returns-then-count-rest-clause-answer
+returns-then-count-rest-clause-answer c =
     let e = c.bits_and_numbers.ensures in
     let laws : BitLaws = record { value_of_bits = e.value_of_bits; bits_of_value = e.bits_of_value; bits_of_both = e.both } in
     let p = c.phase_of.ensures in
     sym (found-early laws c.args.count c.args.window c.phase_of.result c.requires.count p.commas p.other_commas c.in_ok-rest.rest c.in_ok-rest.was c.if-count-rest.true)
 
-pub returns-in-269246262021 : goal.returns-in-269246262021
-returns-in-269246262021 c =
+pub returns-in-269246262021-clause-answer : goal.returns-in-269246262021-clause-answer
+returns-in-269246262021-clause-answer c =
     let e = c.bits_and_numbers.ensures in
     let laws : BitLaws = record { value_of_bits = e.value_of_bits; bits_of_value = e.bits_of_value; bits_of_both = e.both } in
     let p = c.phase_of.ensures in
@@ -31,8 +31,8 @@ returns-in-269246262021 c =
     let before = nowhere_before laws c.args.count c.args.window c.phase_of.result c.requires.count p.commas p.other_commas r c.in_ok-rest.was c.if-count-rest.false in
     sym (found-bits_commas laws c.args.count c.args.window x r at (sym (and_mask _ 40) ∙ c.in-269246262021.is) before)
 
-pub returns-in-830265365754 : goal.returns-in-830265365754
-returns-in-830265365754 c =
+pub returns-in-830265365754-clause-answer : goal.returns-in-830265365754-clause-answer
+returns-in-830265365754-clause-answer c =
     let e = c.bits_and_numbers.ensures in
     let laws : BitLaws = record { value_of_bits = e.value_of_bits; bits_of_value = e.bits_of_value; bits_of_both = e.both } in
     let p = c.phase_of.ensures in
@@ -42,8 +42,8 @@ returns-in-830265365754 c =
     let before = nowhere_before laws c.args.count c.args.window c.phase_of.result c.requires.count p.commas p.other_commas r c.in_ok-rest.was c.if-count-rest.false in
     sym (found-bits_other laws c.args.count c.args.window x r at (sym (and_mask _ 40) ∙ c.in-830265365754.is) before)
 
-pub returns-in_default : goal.returns-in_default
-returns-in_default c =
+pub returns-in_default-clause-answer : goal.returns-in_default-clause-answer
+returns-in_default-clause-answer c =
     let e = c.bits_and_numbers.ensures in
     let laws : BitLaws = record { value_of_bits = e.value_of_bits; bits_of_value = e.bits_of_value; bits_of_both = e.both } in
     let p = c.phase_of.ensures in

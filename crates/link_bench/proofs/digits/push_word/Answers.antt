@@ -1,6 +1,6 @@
 use Rattle.std.proofs.Common.{◌≡◌, ◌∙◌, sym, ap, ◌++◌, arith}
 use Rattle.std.proofs.lemmas.List.{append-nil}
-use Rattle.link_bench.specs.Lines.{hex_digits}
+use Rattle.scenario.specs.Digits.{hex_digits}
 use Rattle.link_bench.proofs.LineLemmas.{digit-more}
 use Rattle.link_bench.proofs.digits.push_word.Goals as goal
 

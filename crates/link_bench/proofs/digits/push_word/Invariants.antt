@@ -1,5 +1,5 @@
 use Rattle.std.proofs.Common.{◌≡◌, ◌++◌}
-use Rattle.link_bench.specs.Lines.{hex_digits}
+use Rattle.scenario.specs.Digits.{hex_digits}
 use Rattle.link_bench.proofs.digits.push_word.Given as goal
 
 abbrev pub invariant-loop-place : goal.invariant-loop-place

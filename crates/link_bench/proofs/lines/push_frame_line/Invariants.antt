@@ -1,6 +1,6 @@
 use Rattle.std.proofs.Common.{◌≡◌, ◌∷◌, ◌++◌, take}
 use Rattle.std.specs.List.{flat_map}
-use Rattle.link_bench.specs.Lines.{hex_digits, word_digits}
+use Rattle.scenario.specs.Digits.{hex_digits, word_digits}
 use Rattle.link_bench.proofs.lines.push_frame_line.Given as goal
 
 abbrev pub invariant-loop-word : goal.invariant-loop-word

@@ -1,3 +1,4 @@
+use Rattle.sample_map.proofs.DueLemmas.{one_frame, one_reading}
 use Rattle.sample_map.proofs.FrameLemmas.{places_apart, places_fit, reads_back}
 use Rattle.sample_map.proofs.laws.layout_laws.Goals as goal
 
@@ -9,3 +10,9 @@ returns-clause-again c = reads_back
 
 pub returns-clause-apart : goal.returns-clause-apart
 returns-clause-apart c = places_apart
+
+pub returns-clause-one_frame : goal.returns-clause-one_frame
+returns-clause-one_frame c = one_frame
+
+pub returns-clause-one_reading : goal.returns-clause-one_reading
+returns-clause-one_reading c = one_reading

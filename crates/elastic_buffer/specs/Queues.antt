@@ -1,0 +1,8 @@
+-- An elastic buffer as contracts see it (JESD204B.01 clause 6, deterministic latency).
+use Rattle.std.specs.Prelude.{ℕ, List}
+use Rattle.link_params.specs.declared.cells.LaneCell.{LaneCell}
+
+-- the cells that wait, oldest first, and how many there is room for
+pub record Queue : Type 0 where
+  pub cells : List LaneCell
+  pub depth : ℕ

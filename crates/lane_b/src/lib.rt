@@ -1,0 +1,27 @@
+//! Both ends of an 8b/10b lane (JESD204B.01 clause 5.3): one character a tick.
+//!
+//! ```text
+//! let mut sender = TxLaneB::new(&link, 0);
+//! let word = sender.tick(TxOrder::Comma, 0); // ten bits, bit 9 sent first
+//! let mut receiver = RxLaneB::open(alloc, &link, 0)?;
+//! receiver.take(&order, word);
+//! let report = receiver.report();
+//! ```
+#![tactic(auto)]
+
+mod alignment;
+mod chars;
+mod loss;
+mod octets;
+mod receiver;
+mod sender;
+mod started;
+#[cfg(test)]
+mod tests_receiver;
+#[cfg(test)]
+mod tests_sender;
+#[cfg(test)]
+mod tests_started;
+
+pub use receiver::RxLaneB;
+pub use sender::TxLaneB;

@@ -1,0 +1,208 @@
+//! Receiver lanes: locks at any bit, dropped locks, starts, and bits that are no characters.
+ghost use Rattle.std.specs.Prelude.{◌≡◌, ◌<◌, IfSome};
+ghost use Rattle.link_params.specs.declared.fields.Mode.TheVariants.{B};
+
+use crate::RxLaneB;
+use link_params::{IlasCause, IlasState, LaneReport, Link, Mode, Params, RxOrder, Timing};
+use std::alloc::Global;
+use std::test::Fail;
+
+// One lane, a multiframe of 17 octets, a window of 5 to 6 ticks.
+fn link() -> Option<Link>
+    ensures { IfSome result (λ k. (k.params.mode ≡ B) × (0 < k.params.l)) }
+{
+    let params = Params {
+        mode: Mode::B,
+        l: 1,
+        m: 1,
+        f: 1,
+        s: 1,
+        n: 8,
+        np: 8,
+        cs: 0,
+        hd: false,
+        scr: false,
+        k: 17,
+        e: 0,
+    };
+    let timing = Timing {
+        sysref_period: 1088,
+        sysref_start: 2,
+        tx_skew: 8,
+        rx_skew: 120,
+        tolerance: 7,
+        rbd: 0,
+        sync_delay: 5,
+        w_lo: 5,
+        w_hi: 6,
+    };
+    match params.check() {
+        Ok(shape) => match shape.with(&timing) {
+            Ok(link) => Some(link),
+            Err(_) => None,
+        },
+        Err(_) => None,
+    }
+}
+
+// A lane and the room of its buffer. Each tick takes an entry out first.
+#[derive(Drop)]
+struct Bench {
+    lane: RxLaneB,
+    depth: u32,
+    ghost same: { depth ≡ lane.buffer.depth },
+}
+
+impl Bench {
+    fn open(alloc: Global) -> Option<Bench> {
+        let link = link()?;
+        let lane = RxLaneB::open(alloc, &link, 0).ok()?;
+        Some(Bench {
+            lane,
+            depth: link.depth(),
+        })
+    }
+
+    fn take(&mut self, order: &RxOrder, word: u16) {
+        if self.lane.held() > 0 {
+            self.lane.give();
+        }
+        if order.hunt || self.lane.held() < self.depth {
+            self.lane.take(order, word & 0x3FF);
+        }
+    }
+
+    // Takes characters that come `phase` bits after the ticks' beginnings, from the second one on.
+    fn take_all(&mut self, order: &RxOrder, phase: u32, chars: &[u16]) {
+        for index in 1..chars.len() {
+            let both = u32::from(chars[index - 1]) << 10 | u32::from(chars[index]);
+            self.take(order, (both >> phase % 10 & 0x3FF) as u16);
+        }
+    }
+
+    // Takes as many words, each made from the one before.
+    fn take_words(&mut self, order: &RxOrder, count: u32, first: u16, factor: u16, more: u16) {
+        let mut word = first;
+        for _ in 0..count {
+            self.take(order, word);
+            word = word.wrapping_mul(factor).wrapping_add(more);
+        }
+    }
+}
+
+const HUNT: RxOrder = RxOrder {
+    hunt: true,
+    armed: false,
+    offset: 0,
+};
+
+const WAIT: RxOrder = RxOrder {
+    hunt: false,
+    armed: false,
+    offset: 0,
+};
+
+fn armed(offset: u32) -> RxOrder {
+    RxOrder {
+        hunt: false,
+        armed: true,
+        offset,
+    }
+}
+
+// /K/ at either disparity, /R/, and D21.5.
+const K: u16 = 0x0FA;
+
+const L: u16 = 0x305;
+
+const R: u16 = 0x0F4;
+
+const D: u16 = 0x2AA;
+
+const NOT_LOCKED: LaneReport = LaneReport {
+    locked: false,
+    started: None,
+    lost: false,
+    ilas: IlasState::Idle,
+};
+
+const LOCKED: LaneReport = LaneReport {
+    locked: true,
+    started: None,
+    lost: false,
+    ilas: IlasState::Idle,
+};
+
+fn started(offset: u32, lost: bool, ilas: IlasState) -> LaneReport {
+    LaneReport {
+        locked: true,
+        started: Some(offset),
+        lost,
+        ilas,
+    }
+}
+
+#[test]
+fn locks_at_each_bit(rt: HostRuntime) -> Result<(), Fail> {
+    let mut bench = Bench::open(rt.alloc()).ok_or("memory")?;
+    for phase in 0..10 {
+        bench.take_all(&HUNT, phase, &[0, K]);
+        bench.take_all(&WAIT, phase, &[K, L, K, L]);
+        let whole = if phase == 0 { LOCKED } else { NOT_LOCKED };
+        assert_eq!(rt; bench.lane.report(), whole, "{phase}");
+        bench.take_all(&WAIT, phase, &[L, K]);
+        assert_eq!(rt; bench.lane.report(), LOCKED, "{phase}");
+        bench.take_all(&armed(6), phase, &[K, L, R, D]);
+        assert_eq!(rt;
+            bench.lane.report(),
+            started(6, false, IlasState::Going),
+            "{phase}"
+        );
+        assert_eq!(rt; bench.lane.held(), 1, "{phase}");
+    }
+    Ok(())
+}
+
+// Another character before the lane is armed drops the lock, and the hunt goes on behind it.
+#[test]
+fn drops_and_locks_again(rt: HostRuntime) -> Result<(), Fail> {
+    let mut bench = Bench::open(rt.alloc()).ok_or("memory")?;
+    bench.take_all(&HUNT, 4, &[0, K]);
+    bench.take_all(&WAIT, 4, &[K, L, K, L, D]);
+    assert_eq!(rt; bench.lane.report(), LOCKED);
+    bench.take_all(&WAIT, 4, &[D, K]);
+    assert_eq!(rt; bench.lane.report(), NOT_LOCKED);
+    bench.take_all(&armed(6), 4, &[K, L, K, L]);
+    assert_eq!(rt; bench.lane.report(), NOT_LOCKED);
+    bench.take_all(&armed(7), 4, &[L, R]);
+    assert_eq!(rt; bench.lane.report(), LOCKED);
+    bench.take_all(&armed(8), 4, &[R, D]);
+    assert_eq!(rt; bench.lane.report(), started(8, false, IlasState::Going));
+    assert_eq!(rt; bench.lane.held(), 0);
+    Ok(())
+}
+
+// A hunt finds nothing in such bits, and a started lane is lost but for bits that alternate, which are the character D21.5.
+#[test]
+fn bits_of_no_lane(rt: HostRuntime) -> Result<(), Fail> {
+    let mut bench = Bench::open(rt.alloc()).ok_or("memory")?;
+    for (first, factor, more, lost) in [
+        (0, 1, 0, true),
+        (0x3FF, 1, 0, true),
+        (D, 1, 0, false),
+        (0x123, 0x6255, 0x3619, true),
+    ] {
+        bench.take_all(&HUNT, 0, &[0, 0]);
+        bench.take_words(&armed(6), 4_096, first, factor, more);
+        assert_eq!(rt; bench.lane.report(), NOT_LOCKED, "{first}");
+        bench.take_all(&armed(6), 7, &[0, K, L, K, L, R, R, D]);
+        let wrong = IlasState::Fault {
+            place: 1,
+            cause: IlasCause::Wrong,
+        };
+        assert_eq!(rt; bench.lane.report(), started(6, false, wrong), "{first}");
+        bench.take_words(&WAIT, 4_096, first, factor, more);
+        assert_eq!(rt; bench.lane.report(), started(6, lost, wrong), "{first}");
+    }
+    Ok(())
+}

@@ -1,0 +1,30 @@
+use Rattle.std.proofs.Common.{◌<◌, List, ap, arith, length, subst, sym}
+use Rattle.lane_b.specs.Received.{report_b}
+use Rattle.link_run.specs.LaneRuns.{HaveRun, Pair}
+use Rattle.link_run.proofs.LaneLemmas.{IsReport, all-written, written-more, written-none}
+use Rattle.link_run.proofs.lanes.Lanes.report.Goals as goal
+
+pub loop-lane-init : goal.loop-lane-init
+loop-lane-init c = written-none IsReport _ _
+
+pub loop-lane-preserved : goal.loop-lane-preserved
+loop-lane-preserved c =
+    let x = c.index.result.now in
+    let long = ap length c.as_slice-lane-end.ensures.value in
+    let same = ap length c.self.view_is in
+    let written = c.loop-lane.auto.reports in
+    let count = c.requires in
+    let lanes = c.self.inside.pairs.items in
+    let below : c.loop-lane.lane < length lanes = omega arith in
+    written-more IsReport lanes c.loop-lane.reports c.loop-lane.lane x x c.report.result below (omega arith) c.index.ensures
+    (record { is = c.report.ensures }) c.loop-lane.invariant
+
+pub returns : goal.returns
+returns c s runs run =
+    let long = ap length c.as_slice-lane-end.ensures.value in
+    let same = ap length c.self.view_is in
+    let written = c.loop-lane.auto.reports in
+    let count = c.requires in
+    all-written IsReport c.self.inside.pairs.items c.loop-lane.reports c.loop-lane.lane s runs (λ lane. report_b s.link.params s.link.timing lane (runs lane).taken)
+    c.loop-lane.invariant (omega arith) (omega arith)
+    (subst (λ (l : List Pair). HaveRun l s runs) (sym c.self.view_is) run) (λ k x y done h. done.is s k (runs k) h)

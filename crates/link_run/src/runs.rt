@@ -1,0 +1,88 @@
+//! A run, tick by tick.
+ghost use Rattle.std.specs.Prelude.{◌≡◌, ◌<◌, ◌+◌, IfOk, OnOk, IsTrue, is_some, Some, []};
+ghost use Rattle.std.specs.Option.{ForSome};
+ghost use Rattle.link_params.specs.declared.fields.Mode.TheVariants.{B};
+ghost use Rattle.lane_b.specs.Received.{lanes_b};
+ghost use Rattle.scenario.specs.Plans.{Plan, plan_of};
+ghost use Rattle.link_run.specs.LinkStates.{HasRun};
+ghost use Rattle.link_run.specs.Report.{report, totals};
+ghost use Rattle.link_run.specs.Reported.{AreFew, HasReported};
+ghost use Rattle.link_run.specs.Run.{run as history};
+
+use crate::link_state::LinkState;
+use crate::report::Report;
+use crate::reporting::report_tick;
+use jesd_base::NoMemory;
+use scenario::{Row, Scenario, Totals};
+use std::alloc::Global;
+
+/// What comes of a run.
+#[derive(Drop)]
+pub struct Ran {
+    /// The lines of its report.
+    pub text: Vec<u8>,
+    /// What its last line counts.
+    pub totals: Totals,
+}
+
+/// Runs the link of a scenario from its first tick to its last one. `NoMemory` where the text of the report or the link gets no memory.
+pub fn run(alloc: Global, s: &Scenario) -> Result<Ran, NoMemory>
+    requires link { IsTrue (is_some s.now.link) }
+    requires mode { ForSome s.now.link (λ k. k.params.mode ≡ B) }
+    ensures text { (plan : Plan) → plan_of s.now ≡ Some plan → IfOk result (λ r. r.text.items ≡ report lanes_b plan) }
+    ensures totals { (plan : Plan) → plan_of s.now ≡ Some plan → IfOk result (λ r. r.totals ≡ totals plan (history lanes_b plan plan.ticks)) }
+{
+    let Some(link) = s.link else { unreachable!() };
+    let mut state = LinkState::open(alloc, s, &link)?;
+    let mut report = open_report(alloc, s)?;
+    for t in 0..s.ticks {
+        run_tick(&mut state, &mut report, s, t)?;
+    }
+    let totals = report.totals();
+    report.row(s, &Row::End(totals), &[])?;
+    Ok(Ran {
+        text: report.into_text(),
+        totals,
+    })
+}
+
+// A report with the rows before the first tick.
+fn open_report(alloc: Global, s: &Scenario) -> Result<Report, NoMemory>
+    ensures reported { (plan : Plan) → plan_of s.now ≡ Some plan → IfOk result (λ r. HasReported r plan []) }
+    ensures few { IfOk result (λ r. AreFew r.totals 0) }
+{
+    let mut report = Report::open(alloc, s)?;
+    report.row(s, &Row::Link, &[])?;
+    report.row(s, &Row::Hunt(0), &[])?;
+    Ok(report)
+}
+
+// Tick `t`, and its rows.
+fn run_tick(
+    state: &mut LinkState,
+    report: &mut Report,
+    s: &Scenario,
+    t: u32,
+) -> Result<(), NoMemory>
+    requires tick { t < s.now.ticks }
+    requires link { s.now.link ≡ Some state.old.link }
+    requires stands { (plan : Plan) → plan_of s.now ≡ Some plan → HasRun state.old plan (history lanes_b plan t) }
+    requires reported { (plan : Plan) → plan_of s.now ≡ Some plan → HasReported report.old plan (history lanes_b plan t) }
+    requires few { AreFew report.old.totals t }
+    ensures stands { (plan : Plan) → plan_of s.now ≡ Some plan → HasRun state.new plan (history lanes_b plan (t + 1)) }
+    ensures reported { (plan : Plan) → plan_of s.now ≡ Some plan → OnOk result (HasReported report.new plan (history lanes_b plan (t + 1))) }
+    ensures few { OnOk result (AreFew report.new.totals (t + 1)) }
+    ensures same { state.new.link ≡ state.old.link }
+{
+    let most = report.totals().fullest;
+    let seen = state.tick(s, t, most);
+    report_tick(
+        report,
+        s,
+        t,
+        &seen,
+        state.entered(),
+        state.alarms(),
+        state.delivered(),
+    )
+}

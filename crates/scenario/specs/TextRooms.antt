@@ -1,0 +1,7 @@
+-- A line of text as contracts see it.
+use Rattle.std.specs.Prelude.{ℕ, List}
+
+-- its bytes, and how many there is room for
+pub record Text : Type 0 where
+  pub bytes : List ℕ
+  pub room : ℕ

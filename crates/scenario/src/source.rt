@@ -1,0 +1,49 @@
+//! The frames that go into a run.
+ghost use Rattle.std.specs.Prelude.{◌≡◌, ◌<◌, ◌≤◌, ◌+◌, ◌*◌, ◌/◌, ◌%◌, ◌^◌, length, take, drop, map, Some};
+ghost use Rattle.scenario.specs.Plans.{Plan, numbers_from, plan_of, source_frame};
+
+use crate::input::Input;
+use crate::scenario_type::Scenario;
+
+/// Writes the M·S words of source frame `n`, counted from 0, of a scenario for `run`: those of the records `frame`, again and again, or of
+/// the ramp. Without frames the words stay as they are.
+pub fn source_frame(s: &Scenario, n: u64, words: &mut [u32])
+    requires { length words.old ≡ s.now.shape.m * s.now.shape.s }
+    ensures { (plan : Plan) → plan_of s.now ≡ Some plan → words.new ≡ source_frame plan n }
+{
+    let size = s.shape.frame_words();
+    match &s.input {
+        Input::Ramp { start, step } => {
+            let before = n.wrapping_mul(size as u64);
+            let first = (*start as u64).wrapping_add((*step as u64).wrapping_mul(before));
+            ramp_words(first, *step, s.shape.word_bits(), words);
+        }
+        Input::Frames(frames) => repeated_frame(frames, n, words),
+    }
+}
+
+// Words from `first` on by `step`, modulo 2^bits.
+pub(crate) fn ramp_words(first: u64, step: u32, bits: u32, words: &mut [u32])
+    requires { bits ≤ 32 }
+    ensures { words.new ≡ map (λ k. (first + step * k) % 2 ^ bits) (numbers_from 0 (length words.old)) }
+{
+    let mask = (1u64 << bits) - 1;
+    let mut value = first;
+    for word in words.iter_mut() {
+        *word = (value & mask) as u32;
+        value = value.wrapping_add(step as u64);
+    }
+}
+
+// The words of frame `n` modulo the number of frames; `words` is as long as a frame.
+pub(crate) fn repeated_frame(frames: &[u32], n: u64, words: &mut [u32])
+    requires { 1 ≤ length words.old }
+    ensures { length words.old ≤ length frames.now → words.new ≡ take (length words.old) (drop (n % (length frames.now / length words.old) * length words.old) frames.now) }
+{
+    let size = words.len();
+    let count = frames.len() / size;
+    if count > 0 {
+        let frame = (n % count as u64) as usize;
+        words.copy_from_slice(&frames[frame * size..(frame + 1) * size]);
+    }
+}
