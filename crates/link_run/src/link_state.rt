@@ -107,7 +107,7 @@ impl LinkState {
         }
     }
 
-    /// The frame that entered last, or a frame of zeros.
+    /// The words of the frame that began last; before the first one those of frame 0.
     pub fn entered(&self) -> &[u32]
         ensures words { result.now ≡ self.now.tx.feed.words }
         ensures size { length result.now ≡ self.now.tx.feed.params.m * self.now.tx.feed.params.s }

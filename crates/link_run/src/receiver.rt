@@ -122,7 +122,7 @@ impl Receiver {
         ensures alarms { result.now ≡ self.now.alarms }
         ensures few { length result.now ≤ 34 }
     {
-        // for what it ensures: a row has room for 34 alarms
+        // This call's clause says that a row has at most 34 alarms.
         let _count = self.alarms.len();
         &self.alarms
     }
