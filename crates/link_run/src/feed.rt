@@ -67,13 +67,6 @@ impl Feed {
         self.begun += 1;
     }
 
-    /// How many frames began.
-    pub fn begun(&self) -> u32
-        ensures { result ≡ self.now.begun }
-    {
-        self.begun
-    }
-
     /// Octet `at` of a lane of the frame that began last; `at` is below F.
     pub fn octet(&self, lane: u32, at: u32) -> u8
         requires lane { lane < self.now.params.l }
