@@ -46,11 +46,11 @@ one_reading p octets words legal len are =
     number_of_bits (p.n + p.cs) (slice_index words r) (λ b. frame_bit octets (place p r b)) (are.below r lt) (λ b in_word. are.bits r b lt in_word))
 
 -- the bit at a place among all bits of all groups
-abbrev group_due : Grouping → List ℕ → ℕ → ℕ
+abbrev pub group_due : Grouping → List ℕ → ℕ → ℕ
 group_due g words q = let x = q % (8 * g.octets) in
     if nat_lt (x / g.width) g.words then bit_in_word g (slice_index words (q / (8 * g.octets) * g.words + x / g.width)) (x % g.width) else 0
 
-due-groups : (p : Params) (words : List ℕ) (q : ℕ) → q < 8 * (p.l * p.f) → bit_due p words q ≡ group_due (grouping p) words q
+pub due-groups : (p : Params) (words : List ℕ) (q : ℕ) → q < 8 * (p.l * p.f) → bit_due p words q ≡ group_due (grouping p) words q
 due-groups p words q lt = elim (cases_Bool p.hd) [
   | inl t ↦
       let d : q / (8 * (p.l * p.f)) ≡ 0 = div-eq_of_lt lt in
