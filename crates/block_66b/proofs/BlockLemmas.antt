@@ -1,12 +1,12 @@
 -- Blocks and the bits of two ticks.
-use Rattle.std.proofs.Common.{◌≡◌, ◌≢◌, ℕ, zero, suc, ◌+◌, ◌-◌, ◌*◌, ◌/◌, ◌%◌, ◌^◌, ◌<◌, ◌==◌, Bool, List, ◌∷◌, ◌++◌, length, take, drop, refl, sym, ap, ap₂, ◌∙◌, inl, inr, append_assoc, length-append, arith, bit_and}
+use Rattle.std.proofs.Common.{◌≡◌, ◌≢◌, ℕ, zero, suc, ◌+◌, ◌-◌, ◌*◌, ◌/◌, ◌%◌, ◌^◌, ◌<◌, ◌≤◌, ◌==◌, Bool, List, ◌∷◌, ◌++◌, length, take, drop, refl, sym, ap, ap₂, ◌∙◌, inl, inr, append_assoc, length-append, arith, bit_and}
 use Rattle.std.specs.Prelude.{bit_or}
 use Rattle.std.specs.Int.{bit_at}
-use Rattle.std.proofs.Math.Nat.{mod-eq_of_lt, mul-mod_left}
+use Rattle.std.proofs.Math.Nat.{mod-eq_of_lt, mul-le-mul_right, mul-mod_left}
 use Rattle.std.proofs.Math.Pow.{mod-mod-pow}
 use Rattle.std.proofs.lemmas.Bool.{cases_lt}
 use Rattle.std.proofs.lemmas.List.{drop-append-le, drop-drop, drop_at, take_at}
-use Rattle.std.proofs.lemmas.Nat.{and_mask, mod-pow-add, or_shifted, shl-shr, shr-shr, shr_below}
+use Rattle.std.proofs.lemmas.Nat.{and_mask, mod-pow-add, or_shifted, pow-add, pow_pos, shl-shr, shr-shr, shr_below}
 use Rattle.jesd_base.specs.Bits.{bits, value, zeros}
 use Rattle.jesd_base.specs.BitLaws.{BitsLength, ValueOfBits, ValueOfAppend}
 use Rattle.block_66b.specs.Blocks.{header, window}
@@ -65,6 +65,20 @@ joined l t rest within small =
     ∙ omega arith in
     let below : t / 2 ^ rest < 2 ^ s = shr_below t s rest (rw turned small) in
     ap (λ a. bit_or a (t / 2 ^ rest)) (masked ∙ ap (λ n. l * 2 ^ s % 2 ^ n) (sym whole) ∙ up) ∙ or_shifted (l % 2 ^ rest) s (t / 2 ^ rest) below
+
+-- a block across two ticks has 66 bits
+pub joined-small : (l t rest : ℕ) → rest < 66 → t < 2 ^ 66
+    → l % 2 ^ rest * 2 ^ (66 - rest) + t / 2 ^ rest < 2 ^ 66
+joined-small l t rest within small =
+    let s : ℕ = 66 - rest in
+    let turned : s + rest ≡ 66 = omega arith in
+    let p = pow_pos rest in
+    let high : l % 2 ^ rest + 1 ≤ 2 ^ rest = omega arith in
+    let low : t / 2 ^ rest < 2 ^ s = shr_below t s rest (rw turned small) in
+    let more : (l % 2 ^ rest + 1) * 2 ^ s ≤ 2 ^ rest * 2 ^ s = mul-le-mul_right (2 ^ s) high in
+    let whole : 2 ^ rest * 2 ^ s ≡ 2 ^ 66 =
+    let n : rest + s ≡ 66 = omega arith in sym (pow-add 2 rest s) ∙ ap (λ k. 2 ^ k) n in
+    omega arith
 
 module _ (bits_length : BitsLength) (of_bits : ValueOfBits) (value_append : ValueOfAppend) where
   length-zeros : (n : ℕ) → length (zeros n) ≡ n

@@ -42,6 +42,7 @@ impl BitWindow {
             → HasTaken self.new rest (taken ++ bits 66 tick) }
         ensures answer { (rest : ℕ) (taken : List Bool) → HasTaken self.old rest taken
             → result ≡ value (window rest (taken ++ bits 66 tick)) }
+        ensures below { result < 2 ^ 66 }
     {
         bits_and_numbers();
         let block = across(self.last, tick, self.rest);
@@ -55,7 +56,8 @@ fn across(last: u128, tick: u128, rest: u8) -> u128
     requires rest { rest < 66 }
     requires last { last < 2 ^ 66 }
     requires tick { tick < 2 ^ 66 }
-    ensures { result ≡ last % 2 ^ rest * 2 ^ (66 - rest) + tick / 2 ^ rest }
+    ensures block { result ≡ last % 2 ^ rest * 2 ^ (66 - rest) + tick / 2 ^ rest }
+    ensures below { result < 2 ^ 66 }
 {
     ((last << (66 - rest)) & BLOCK) | (tick >> rest)
 }

@@ -8,7 +8,8 @@ use jesd_base::bits_and_numbers;
 
 /// The block with this sync bit and this payload.
 pub fn pack(sync: bool, payload: u64) -> u128
-    ensures { result ≡ packed sync payload }
+    ensures block { result ≡ packed sync payload }
+    ensures below { result < 2 ^ 66 }
 {
     bits_and_numbers();
     let header: u128 = if sync { 0b01 } else { 0b10 };

@@ -29,3 +29,13 @@ fn windows_over_two_ticks(rt: HostRuntime) {
         assert_eq!(rt; window.push(second), two, "at {rest}");
     }
 }
+
+#[test]
+fn a_block_across_two_ticks(rt: HostRuntime) {
+    let block = pack(true, 0x0123_4567_89ab_cdef);
+    let mut window = BitWindow::new(3);
+    let (before, _payload) = unpack(window.push(block >> 63));
+    assert_eq!(rt; before, SyncBit::Bad);
+    let read = unpack(window.push((block % (1 << 63)) << 3));
+    assert!(rt; read == (SyncBit::One, 0x0123_4567_89ab_cdef));
+}

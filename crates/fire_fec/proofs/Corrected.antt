@@ -1,6 +1,6 @@
 -- What the number of a received word's remainder tells of the word.
-use Rattle.std.proofs.Common.{◌≡◌, ◌≢◌, ℕ, ◌^◌, ◌<◌, Bool, true, false, List, [], ◌∷◌, ◌++◌, length, take, Option, Some, None, refl, sym, ◌∙◌, ap, ap₂, inl, inr, length-append, arith, bit_xor}
-use Rattle.std.proofs.lemmas.Nat.{pow_pos, xor_lt}
+use Rattle.std.proofs.Common.{◌≡◌, ◌≢◌, ℕ, Bool, true, false, List, [], ◌∷◌, ◌++◌, length, take, Option, Some, None, refl, sym, ◌∙◌, ap, ap₂, inl, inr, length-append, arith}
+use Rattle.std.proofs.lemmas.Nat.{pow_pos}
 use Rattle.std.specs.Int.Bits.{xor_self}
 use Rattle.std.proofs.lemmas.Bool.{cases_Bool, true≢false}
 use Rattle.std.proofs.Math.Seq.{take-append_seam}
@@ -28,26 +28,18 @@ word_length payload check blocks = omega (arith, payload-length payload, bits_le
 take-front : (v w : List Bool) → length v ≡ 2048 → take 2048 (v ++ w) ≡ v
 take-front v w e = rw e at (take-append_seam v w)
 
-module _ (payload : List ℕ) (check r : ℕ) (blocks : length payload ≡ 32) (small : check < 2 ^ 26) (is : r ≡ bit_xor (value (parity (payload_bits payload))) check) where
-  remainder_is : value (rem fire (received payload check)) ≡ r
-  remainder_is =
-      let l = payload-length payload in
-      received_remainder (payload_bits payload) check (omega arith) small ∙ sym is
-
-  pub remainder_small : r < 2 ^ 26
-  remainder_small = rw is (xor_lt 26 (value (parity (payload_bits payload))) check (parity-small (payload_bits payload)) small)
-
+module _ (payload : List ℕ) (check r : ℕ) (blocks : length payload ≡ 32) (is : r ≡ value (rem fire (received payload check))) where
   pub is_whole : r ≡ 0 → all_zero (rem fire (received payload check)) ≡ true
-  is_whole e = zero_of_value (rem fire (received payload check)) (remainder_is ∙ e)
+  is_whole e = zero_of_value (rem fire (received payload check)) (sym is ∙ e)
 
   pub is_not_whole : r ≢ 0 → all_zero (rem fire (received payload check)) ≡ false
   is_not_whole ne = elim (cases_Bool (all_zero (rem fire (received payload check)))) [
-    | inl zero_word ↦ absurd (ne (sym remainder_is ∙ value-all_zero (rem fire (received payload check)) zero_word))
+    | inl zero_word ↦ absurd (ne (is ∙ value-all_zero (rem fire (received payload check)) zero_word))
     | inr other ↦ other
   ]
 
   pub burst_of_remainder : (b : Option Burst) → trapped r ≡ b → burst (received payload check) ≡ b
-  burst_of_remainder b e = burst_is_trapped (received payload check) (word_length payload check blocks) ∙ ap trapped remainder_is ∙ e
+  burst_of_remainder b e = burst_is_trapped (received payload check) (word_length payload check blocks) ∙ ap trapped (sym is) ∙ e
 
 pub parity_below : ParityBelow
 parity_below payload = parity-small (payload_bits payload)

@@ -5,7 +5,8 @@ pub mod Single
 pub mod Carried
 pub mod Trapping
 pub mod TrappedByDividing
-pub mod Bytes
+pub mod Sums
 pub mod Remainders
+pub mod Blocks
 pub mod Flipping
 pub mod Corrected

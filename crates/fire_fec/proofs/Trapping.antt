@@ -314,7 +314,7 @@ unfolding over_pow over_x
 over_pow-zero zero = refl
 over_pow-zero (suc n) = over_pow-zero n
 
-times_pow-zero : (n : ℕ) → times_pow n 0 ≡ 0
+pub times_pow-zero : (n : ℕ) → times_pow n 0 ≡ 0
 unfolding times_pow times_x
 times_pow-zero zero = refl
 times_pow-zero (suc n) = times_pow-zero n

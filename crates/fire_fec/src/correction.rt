@@ -2,33 +2,36 @@
 ghost use Rattle.std.specs.Prelude.{◌≡◌, ◌+◌, ◌<◌, ◌≤◌, ◌^◌};
 ghost use Rattle.fire_fec.specs.Corrects.{Corrects};
 
+use crate::burst::burst_of;
 use crate::fix::Fix;
 use crate::flip::add_burst;
-use crate::remainder::counted_parity;
 use crate::steps::Steps;
-use crate::trap::trap;
+use crate::trap::Trap;
 use std::marker::Brand;
 use std::sync::ledger::{Blank, Ledger};
 
-/// Corrects one burst of at most nine wrong bits in a received payload of 32 blocks, by its received check
-/// (JESD204C.1, 64b/66b link layer, forward error correction).
+/// Corrects one burst of at most nine wrong bits in a received payload of 32 blocks, by its received
+/// check (JESD204C.1, 64b/66b link layer, forward error correction).
 ///
-/// The received word is the payload, the first block's bit 63 first, and then the check, bit 25 first: 2,074
-/// bits. `Whole` comes exactly where its remainder by the divisor of `parity` is 0. `Fixed` comes exactly where
-/// one burst explains it, and `Uncorrectable` exactly where none does. At `Fixed` the burst's bits in the payload
-/// were inverted; else the payload is unchanged. Several bursts may be taken for one.
+/// The received word is the payload, the first block's bit 63 first, and then the check, bit 25 first:
+/// 2,074 bits. `Whole` comes exactly where its remainder by the divisor of `parity` is 0. `Fixed` comes
+/// exactly where one burst explains it, and `Uncorrectable` exactly where none does. At `Fixed` the
+/// burst's bits in the payload were inverted; else the payload is unchanged. Several bursts may be taken
+/// for one.
 ///
-/// A step is one shift of the remainder, or one block taken in.
+/// A step is one shift of the remainder, or one block taken in: the counter counts the calls of `Trap`
+/// alone, and never falls.
 pub fn correct<L: Ledger>(payload: &mut [u64; 32], check: u32, steps: &mut Steps<L>) -> Fix
     requires { check < 2 ^ 26 }
     ensures answer { Corrects payload.old check payload.new result }
+    ensures rises { steps.old ≤ steps.new }
     ensures steps { steps.new ≤ steps.old + 2106 }
 {
-    let rest = counted_parity(payload, steps) ^ check;
-    if rest == 0 {
+    let trap = Trap::of_word(payload, check, steps);
+    if trap.value() == 0 {
         return Fix::Whole;
     }
-    match trap(rest, steps) {
+    match burst_of(trap, steps) {
         Some((start, mask)) => {
             add_burst(payload, start, mask);
             Fix::Fixed { start, mask }

@@ -5,8 +5,9 @@
 pub enum Fix {
     /// The word has the remainder 0.
     Whole,
-    /// One burst explains the word. It begins at bit `start` of the word, counted from 0. The nine bits of
-    /// `mask` say which bits were wrong: bit 8 belongs to `start` and is 1, and those past the end are 0.
+    /// One burst explains the word. It begins at bit `start` of the word, counted from 0. The
+    /// nine bits of `mask` say which bits were wrong: bit 8 belongs to `start` and is 1, and
+    /// those past the end are 0.
     Fixed { start: u32, mask: u16 },
     /// No burst of at most nine bits explains the word.
     Uncorrectable,

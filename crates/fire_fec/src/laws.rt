@@ -2,18 +2,26 @@
 ghost use Rattle.fire_fec.specs.BurstLaws.{OneBurstIsFound, OnlyPair};
 ghost use Rattle.fire_fec.specs.CorrectionLaws.{OneBurstIsCorrected, ParityBelow, ParityMakesWhole};
 ghost use Rattle.fire_fec.specs.Shifting.{BurstIsTrapped};
+ghost use Rattle.fire_fec.specs.ShiftingLaws.{TimesXIsRemainder, TimesAndOverUndo};
 
-/// The burst of a word is found from its remainder, is the only one, and is taken out by adding it again.
+/// The burst of a word is found from its remainder, is the only one, and is taken out by adding
+/// it again.
 pub fn bursts()
     ensures trapped { BurstIsTrapped }
     ensures only { OnlyPair }
     ensures found { OneBurstIsFound }
 {}
 
-/// What a parity is to a correction: a payload sent with its parity is whole, and one burst added to both
-/// is corrected.
+/// What a parity is to a correction: a payload sent with its parity is whole, and one burst added
+/// to both is corrected.
 pub fn corrections()
     ensures below { ParityBelow }
     ensures whole { ParityMakesWhole }
     ensures corrected { OneBurstIsCorrected }
+{}
+
+/// Multiplying a remainder by x is long division, and is undone by dividing it by x.
+pub fn shifts()
+    ensures times { TimesXIsRemainder }
+    ensures undo { TimesAndOverUndo }
 {}

@@ -1,94 +1,42 @@
-//! The remainder of payload bits, a byte at a time by a table.
-ghost use Rattle.std.specs.Prelude.{◌≡◌, ◌<◌, ◌+◌, ◌^◌, ℕ, Bool, List, ◌++◌, bit_xor};
+//! The remainder of payload bits, a block at a time by tables of octets.
+ghost use Rattle.std.specs.Prelude.{◌≡◌, ◌<◌, ◌^◌, Bool, List, ◌++◌};
 ghost use Rattle.jesd_base.specs.Bits.{bits, value};
 ghost use Rattle.fire_fec.specs.Burst.{parity};
 ghost use Rattle.fire_fec.specs.Corrects.{payload_bits};
+ghost use Rattle.fire_fec.specs.Taking.{block_taken};
 
-use crate::steps::Steps;
-use std::sync::ledger::Ledger;
-
-// The remainder of each octet, times x^26.
-#[rattlefmt::skip]
-const TABLE: [u32; 256] = [
-    0x0000000, 0x0220211, 0x0440422, 0x0660633, 0x0880844, 0x0aa0a55, 0x0cc0c66, 0x0ee0e77,
-    0x1101088, 0x1321299, 0x15414aa, 0x17616bb, 0x19818cc, 0x1ba1add, 0x1dc1cee, 0x1fe1eff,
-    0x2202110, 0x2022301, 0x2642532, 0x2462723, 0x2a82954, 0x28a2b45, 0x2ec2d76, 0x2ce2f67,
-    0x3303198, 0x3123389, 0x37435ba, 0x35637ab, 0x3b839dc, 0x39a3bcd, 0x3fc3dfe, 0x3de3fef,
-    0x0624031, 0x0404220, 0x0264413, 0x0044602, 0x0ea4875, 0x0c84a64, 0x0ae4c57, 0x08c4e46,
-    0x17250b9, 0x15052a8, 0x136549b, 0x114568a, 0x1fa58fd, 0x1d85aec, 0x1be5cdf, 0x19c5ece,
-    0x2426121, 0x2606330, 0x2066503, 0x2246712, 0x2ca6965, 0x2e86b74, 0x28e6d47, 0x2ac6f56,
-    0x35271a9, 0x37073b8, 0x316758b, 0x334779a, 0x3da79ed, 0x3f87bfc, 0x39e7dcf, 0x3bc7fde,
-    0x0c48062, 0x0e68273, 0x0808440, 0x0a28651, 0x04c8826, 0x06e8a37, 0x0088c04, 0x02a8e15,
-    0x1d490ea, 0x1f692fb, 0x19094c8, 0x1b296d9, 0x15c98ae, 0x17e9abf, 0x1189c8c, 0x13a9e9d,
-    0x2e4a172, 0x2c6a363, 0x2a0a550, 0x282a741, 0x26ca936, 0x24eab27, 0x228ad14, 0x20aaf05,
-    0x3f4b1fa, 0x3d6b3eb, 0x3b0b5d8, 0x392b7c9, 0x37cb9be, 0x35ebbaf, 0x338bd9c, 0x31abf8d,
-    0x0a6c053, 0x084c242, 0x0e2c471, 0x0c0c660, 0x02ec817, 0x00cca06, 0x06acc35, 0x048ce24,
-    0x1b6d0db, 0x194d2ca, 0x1f2d4f9, 0x1d0d6e8, 0x13ed89f, 0x11cda8e, 0x17adcbd, 0x158deac,
-    0x286e143, 0x2a4e352, 0x2c2e561, 0x2e0e770, 0x20ee907, 0x22ceb16, 0x24aed25, 0x268ef34,
-    0x396f1cb, 0x3b4f3da, 0x3d2f5e9, 0x3f0f7f8, 0x31ef98f, 0x33cfb9e, 0x35afdad, 0x378ffbc,
-    0x18900c4, 0x1ab02d5, 0x1cd04e6, 0x1ef06f7, 0x1010880, 0x1230a91, 0x1450ca2, 0x1670eb3,
-    0x099104c, 0x0bb125d, 0x0dd146e, 0x0ff167f, 0x0111808, 0x0331a19, 0x0551c2a, 0x0771e3b,
-    0x3a921d4, 0x38b23c5, 0x3ed25f6, 0x3cf27e7, 0x3212990, 0x3032b81, 0x3652db2, 0x3472fa3,
-    0x2b9315c, 0x29b334d, 0x2fd357e, 0x2df376f, 0x2313918, 0x2133b09, 0x2753d3a, 0x2573f2b,
-    0x1eb40f5, 0x1c942e4, 0x1af44d7, 0x18d46c6, 0x16348b1, 0x1414aa0, 0x1274c93, 0x1054e82,
-    0x0fb507d, 0x0d9526c, 0x0bf545f, 0x09d564e, 0x0735839, 0x0515a28, 0x0375c1b, 0x0155e0a,
-    0x3cb61e5, 0x3e963f4, 0x38f65c7, 0x3ad67d6, 0x34369a1, 0x3616bb0, 0x3076d83, 0x3256f92,
-    0x2db716d, 0x2f9737c, 0x29f754f, 0x2bd775e, 0x2537929, 0x2717b38, 0x2177d0b, 0x2357f1a,
-    0x14d80a6, 0x16f82b7, 0x1098484, 0x12b8695, 0x1c588e2, 0x1e78af3, 0x1818cc0, 0x1a38ed1,
-    0x05d902e, 0x07f923f, 0x019940c, 0x03b961d, 0x0d5986a, 0x0f79a7b, 0x0919c48, 0x0b39e59,
-    0x36da1b6, 0x34fa3a7, 0x329a594, 0x30ba785, 0x3e5a9f2, 0x3c7abe3, 0x3a1add0, 0x383afc1,
-    0x27db13e, 0x25fb32f, 0x239b51c, 0x21bb70d, 0x2f5b97a, 0x2d7bb6b, 0x2b1bd58, 0x293bf49,
-    0x12fc097, 0x10dc286, 0x16bc4b5, 0x149c6a4, 0x1a7c8d3, 0x185cac2, 0x1e3ccf1, 0x1c1cee0,
-    0x03fd01f, 0x01dd20e, 0x07bd43d, 0x059d62c, 0x0b7d85b, 0x095da4a, 0x0f3dc79, 0x0d1de68,
-    0x30fe187, 0x32de396, 0x34be5a5, 0x369e7b4, 0x387e9c3, 0x3a5ebd2, 0x3c3ede1, 0x3e1eff0,
-    0x21ff10f, 0x23df31e, 0x25bf52d, 0x279f73c, 0x297f94b, 0x2b5fb5a, 0x2d3fd69, 0x2f1ff78,
-];
+use crate::tables::TABLES;
+use crate::word::CHECK_BITS;
 
 /// The check of a payload of 32 blocks: the remainder of its 2,048 bits times x^26 by the divisor
 /// x^26 + x^21 + x^17 + x^9 + x^4 + 1 (JESD204C.1, 64b/66b link layer, forward error correction).
 ///
-/// The first block's bit 63 has the highest power. The check has 26 bits, of which bit 25 has the highest power.
+/// The first block's bit 63 has the highest power. The check has 26 bits, of which bit 25 has the
+/// highest power.
 pub fn parity(payload: &[u64; 32]) -> u32
-    ensures { result ≡ value (parity (payload_bits payload.now)) }
+    ensures remainder { result ≡ value (parity (payload_bits payload.now)) }
+    ensures below { result < 2 ^ 26 }
 {
     let mut rest = 0;
     for block in payload {
-        rest = take_block(rest, *block);
+        rest = after_block(rest, *block);
     }
     rest
 }
 
-// The parity, each block counted as a step.
-pub(crate) fn counted_parity<L: Ledger>(payload: &[u64; 32], steps: &mut Steps<L>) -> u32
-    ensures parity { result ≡ value (parity (payload_bits payload.now)) }
-    ensures steps { steps.new ≡ steps.old + 32 }
-{
-    let mut rest = 0;
-    for block in payload {
-        steps.tick();
-        rest = take_block(rest, *block);
-    }
-    rest
-}
-
-// The parity of bits with a block behind them, from their own.
-fn take_block(mut rest: u32, block: u64) -> u32
+// The remainder of `rest` times x^64 plus the bits of a block times x^26.
+pub(crate) fn after_block(rest: u32, block: u64) -> u32
     requires { rest < 2 ^ 26 }
-    ensures small { result < 2 ^ 26 }
-    ensures parity { (before : List Bool) → rest ≡ value (parity before) → result ≡ value (parity (before ++ bits 64 block)) }
+    ensures below { result < 2 ^ 26 }
+    ensures remainder { result ≡ block_taken rest block }
+    ensures parity { (before : List Bool) → rest ≡ value (parity before)
+        → result ≡ value (parity (before ++ bits 64 block)) }
 {
-    for byte in block.to_be_bytes() {
-        rest = take_byte(rest, byte);
+    // times x^26 the block's first bits have the powers that the remainder has times x^64
+    let sum = (u64::from(rest) << (64 - CHECK_BITS)) ^ block;
+    let mut after = 0;
+    for (place, octet) in sum.to_be_bytes().iter().enumerate() {
+        after ^= TABLES[place][*octet as usize];
     }
-    rest
-}
-
-// The parity of bits with a byte behind them, from their own.
-fn take_byte(rest: u32, byte: u8) -> u32
-    requires { rest < 2 ^ 26 }
-    ensures small { result < 2 ^ 26 }
-    ensures parity { (before : List Bool) → rest ≡ value (parity before) → result ≡ value (parity (before ++ bits 8 byte)) }
-{
-    let high = (rest >> 18) as u8;
-    ((rest % 0x40000) << 8) ^ TABLE[(high ^ byte) as usize]
+    after
 }

@@ -1,8 +1,10 @@
 //! Worked values, and the plain search over all starts and masks.
-ghost use Rattle.std.specs.Prelude.{◌<◌};
+ghost use Rattle.std.specs.Prelude.{◌≡◌, ◌+◌, ◌<◌};
 
-use crate::{Fix, correct_uncounted, parity};
+use crate::{Fix, Steps, Trap, correct, correct_uncounted, parity};
 use jesd_base::Poly;
+use std::marker::Brand;
+use std::sync::ledger::{Blank, Ledger};
 
 const DIVISOR: u32 = 0x4220211;
 
@@ -59,6 +61,67 @@ fn worked_values(rt: HostRuntime) {
         let fix = correct_uncounted(&mut payload, case.check % 0x4000000);
         assert_eq!(rt; fix, case.fix, "at {}", case.check);
         assert_eq!(rt; payload, payload_of(&case.corrected), "at {}", case.check);
+    }
+}
+
+#[test]
+fn a_payload_with_its_parity(rt: HostRuntime) {
+    let payload = payload_of(&ACROSS);
+    let mut received = payload;
+    let check = parity(&payload);
+    let fix = correct_uncounted(&mut received, check);
+    assert_eq!(rt; fix, Fix::Whole);
+    assert_eq!(rt; received, payload);
+}
+
+// What is left of a payload that is taken in and shifted until it has nine bits, and the steps that were
+// counted.
+fn shifted<L: Ledger>(payload: &[u64; 32], steps: &mut Steps<L>) -> (u32, u32)
+    ensures { steps.new ≡ steps.old + result.1 }
+{
+    let mut trap = Trap::new();
+    for block in payload {
+        trap.take(*block, steps);
+    }
+    for shifts in 0..2066 {
+        if trap.value() < 512 {
+            return (trap.value(), 32 + shifts);
+        }
+        trap.shift(steps);
+    }
+    (trap.value(), 32 + 2066)
+}
+
+// The same on a new ledger, and the answer to the payload with check 0.
+fn shifted_and_corrected<L: Ledger>(payload: &[u64; 32], blank: Blank) -> (u32, u32, Fix)
+    requires name { blank.name ≡ L.name }
+    requires parts { (blank.parts ≡ L.parts) × (0 < blank.parts) }
+{
+    let mut steps = Steps::<L>::open(blank);
+    let (rest, count) = shifted(payload, &mut steps);
+    let mut received = *payload;
+    (rest, count, correct(&mut received, 0, &mut steps))
+}
+
+#[test]
+fn steps_of_corrections(rt: HostRuntime) {
+    for (received, rest, count, fix) in [
+        (NOTHING, 0, 32, Fix::Whole),
+        (
+            FRONT,
+            0x1FF,
+            32 + 2065,
+            Fix::Fixed {
+                start: 0,
+                mask: 0x1FF,
+            },
+        ),
+    ] {
+        let payload = payload_of(&received);
+        let (left, steps, answer) = shifted_and_corrected::<Brand>(&payload, Blank::new(1));
+        assert_eq!(rt; left, rest);
+        assert_eq!(rt; steps, count);
+        assert_eq!(rt; answer, fix);
     }
 }
 

@@ -50,6 +50,20 @@ new-rest n w low = omega arith
 new-head : (n w : ℕ) → w < 2 ^ 66 → n % 2 ^ 66 * 4 + w / 2 ^ 64 ≡ (n * 2 ^ 66 + w) / 2 ^ 64 % 2 ^ 68
 new-head n w low = omega arith
 
+-- what a place that was found is bounded by
+pub place-rest : (now : Kept) (phases : ℕ) (o : Option Found)
+    → IfSome o (λ p. IsFound now phases p) → IfSome o (λ p. p.rest < 66)
+place-rest now phases None h = tt
+place-rest now phases (Some p) h = h.stands.within
+
+pub place-next : (old now : Kept) (phases : ℕ) (o : Option Found) → now.e ≡ old.e → 1 ≤ now.e
+    → IfSome o (λ p. IsFound now phases p) → IfSome o (λ p. p.next < 32 * old.e)
+place-next old now phases None same some h = tt
+place-next old now phases (Some p) same some h =
+    let e : ℕ = now.e in
+    let low = mod-lt (pattern_size e + e - 1 - h.stands.remainder) some in
+    omega (arith, h.stands.follows)
+
 module _ (length_of : BitsLength) (of_bits : ValueOfBits) (of_value : BitsOfValue) (value_append : ValueOfAppend) where
   new-value : (taken : List Bool) (word : ℕ) → word < 2 ^ 66 → value (taken ++ bits 66 word) ≡ value taken * 2 ^ 66 + word
   new-value taken word low =

@@ -71,16 +71,19 @@ impl PlaceHunt {
         hunt
     }
 
-    /// Takes the 66 bits of a tick, of which bit 65 came first. Answers in the tick that completes the least
-    /// place since the hunt began from which 32 * max(4, `e`) blocks have good headers, each sync word ends in
-    /// 00001, and the end bits are 1 in exactly the multiblocks of one remainder modulo `e`. A hunt ends there:
-    /// no clause says what it keeps after that answer.
+    /// Takes the 66 bits of a tick, of which bit 65 came first. Answers in the tick that completes the
+    /// least place since the hunt began from which 32 * max(4, `e`) blocks have good headers, each sync
+    /// word ends in 00001, and the end bits are 1 in exactly the multiblocks of one remainder modulo `e`.
+    /// A hunt ends there: no clause says what it keeps after that answer. A `BitWindow` made with the
+    /// place's `rest` goes on from there.
     pub fn push(&mut self, word: u128) -> Option<Place>
         requires { word < 2 ^ 66 }
         ensures answer { (e : ℕ) (taken : List Bool) → HasHunted self.old e taken
             → result ≡ found e (taken ++ bits 66 word) }
         ensures hunts_on { (e : ℕ) (taken : List Bool) → HasHunted self.old e taken → result ≡ None
             → HasHunted self.new e (taken ++ bits 66 word) }
+        ensures rest { IfSome result (λ p. p.rest < 66) }
+        ensures next { IfSome result (λ p. p.next < 32 * self.old.e) }
     {
         bits_and_numbers();
         self.take(word);
@@ -94,6 +97,7 @@ impl PlaceHunt {
     fn take(&mut self, word: u128)
         requires { word < 2 ^ 66 }
         ensures e { self.new.e ≡ self.old.e }
+        ensures least { 1 ≤ self.new.e }
         ensures most { self.new.e ≤ 32 }
         ensures count { self.new.count ≡ min (self.old.count + 66) 67650 }
         ensures last { self.new.last ≡ word }

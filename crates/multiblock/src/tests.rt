@@ -1,5 +1,5 @@
 //! Tests.
-ghost use Rattle.std.specs.Prelude.{◌<◌, ◌≤◌};
+ghost use Rattle.std.specs.Prelude.{◌<◌, ◌≤◌, ◌^◌};
 
 use crate::{Place, PlaceHunt, SyncRead, read_sync, sync_word};
 use block_66b::{BitWindow, pack};
@@ -27,6 +27,7 @@ fn block(e: u32, first: u32, n: u32) -> u128
     requires low { 1 ≤ e }
     requires first { first < 32 }
     requires count { n < 1000 }
+    ensures { result < 2 ^ 66 }
 {
     let end = (first + n / 32) % e == e - 1;
     let word = sync_word(Mode::CCrc, 0, 0, end);
@@ -48,24 +49,25 @@ fn hunts(rt: HostRuntime) {
         let mut hunt = PlaceHunt::new(e);
         let mut line = BitWindow::new(zeros);
         for n in 0..tick {
-            let word = line.push(block(e, first, n) % (1 << 66));
-            assert!(rt; hunt.push(word % (1 << 66)).is_none(), "at {n} with {e}");
+            let word = line.push(block(e, first, n));
+            assert!(rt; hunt.push(word).is_none(), "at {n} with {e}");
         }
-        let word = line.push(block(e, first, tick) % (1 << 66));
-        assert_eq!(rt;
-            hunt.push(word % (1 << 66)),
-            Some(Place { rest, next }),
-            "with {e}"
-        );
+        let word = line.push(block(e, first, tick));
+        assert_eq!(rt; hunt.push(word), Some(Place { rest, next }), "with {e}");
     }
 }
 
 #[test]
 fn goes_on_within_a_tick(rt: HostRuntime) {
-    let mut hunt = PlaceHunt::resume(1, block(1, 0, 0) % (1 << 66), 65);
+    let mut hunt = PlaceHunt::resume(1, block(1, 0, 0), 65);
     for n in 1..159u32 {
-        assert!(rt; hunt.push(block(1, 0, n) % (1 << 66)).is_none(), "at {n}");
+        assert!(rt; hunt.push(block(1, 0, n)).is_none(), "at {n}");
     }
-    let place = Place { rest: 0, next: 0 };
-    assert_eq!(rt; hunt.push(block(1, 0, 159) % (1 << 66)), Some(place));
+    let found = hunt.push(block(1, 0, 159));
+    assert_eq!(rt; found, Some(Place { rest: 0, next: 0 }));
+    if let Some(place) = found {
+        let mut window = BitWindow::new(place.rest);
+        let next = block(1, 0, 160);
+        assert_eq!(rt; window.push(next), next);
+    }
 }

@@ -1,32 +1,40 @@
-use Rattle.std.proofs.Common.{None, refl, sym, ◌∙◌, ap, arith, bit_xor}
+use Rattle.std.proofs.Common.{None, refl, sym, ◌∙◌, arith}
 use Rattle.jesd_base.specs.Bits.{bits}
 use Rattle.fire_fec.specs.Corrects.{payload_bits}
-use Rattle.fire_fec.proofs.Corrected.{is_whole, is_not_whole, remainder_small, burst_of_remainder}
+use Rattle.fire_fec.proofs.Corrected.{is_whole, is_not_whole, burst_of_remainder}
 use Rattle.fire_fec.proofs.Flipping.{burst_in_payload, payload-length}
 use Rattle.fire_fec.proofs.correction.correct.Goals as goal
 
-pub returns-then-rest-eq0-clause-answer : goal.returns-then-rest-eq0-clause-answer
-returns-then-rest-eq0-clause-answer g c =
-    (is_whole c.args.payload.now c.args.check _ (omega arith) c.requires (ap (λ r. bit_xor r c.args.check) c.counted_parity.ensures.parity) c.if-rest-eq0.true, refl)
-
-pub trap-requires : goal.trap-requires
-trap-requires g c =
-    let ne = c.if-rest-eq0.false in
-    (omega arith, remainder_small c.args.payload.now c.args.check _ (omega arith) c.requires (ap (λ r. bit_xor r c.args.check) c.counted_parity.ensures.parity))
+pub returns-then-value-eq0-clause-answer : goal.returns-then-value-eq0-clause-answer
+returns-then-value-eq0-clause-answer g c =
+    let is = c.of_word-trap.ensures.rest in
+    let zero = sym c.value.ensures.value ∙ c.if-value-eq0.true in
+    (is_whole c.args.payload.now c.args.check c.of_word-trap.result (omega arith) is zero, refl)
 
 pub returns-in-Some-clause-answer : goal.returns-in-Some-clause-answer
 returns-in-Some-clause-answer g c =
     let l = payload-length c.args.payload.now in
-    let is = ap (λ r. bit_xor r c.args.check) c.counted_parity.ensures.parity in (
-      is_not_whole c.args.payload.now c.args.check _ (omega arith) c.requires is c.if-rest-eq0.false,
-      burst_of_remainder c.args.payload.now c.args.check _ (omega arith) c.requires is _ c.in-Some.ensures.burst,
-      c.add_burst.ensures ∙ sym (burst_in_payload (payload_bits c.args.payload.now) (bits 26 c.args.check) c.in-Some.start c.in-Some.mask (omega arith)),
+    let blocks = c.args.payload.now in
+    let check = c.args.check in
+    let r = c.of_word-trap.result in
+    let start = c.in-Some.start in
+    let mask = c.in-Some.mask in
+    let v = c.value.ensures.value in
+    let is = c.of_word-trap.ensures.rest in (
+      is_not_whole blocks check r (omega arith) is (λ e. c.if-value-eq0.false (v ∙ e)),
+      burst_of_remainder blocks check r (omega arith) is _ c.in-Some.ensures.burst,
+      c.add_burst.ensures
+          ∙ sym (burst_in_payload (payload_bits blocks) (bits 26 check) start mask (omega arith)),
     )
 
 pub returns-in-None-clause-answer : goal.returns-in-None-clause-answer
 returns-in-None-clause-answer g c =
-    let is = ap (λ r. bit_xor r c.args.check) c.counted_parity.ensures.parity in (
-      is_not_whole c.args.payload.now c.args.check _ (omega arith) c.requires is c.if-rest-eq0.false,
-      burst_of_remainder c.args.payload.now c.args.check _ (omega arith) c.requires is None c.in-None.ensures.burst,
+    let blocks = c.args.payload.now in
+    let check = c.args.check in
+    let r = c.of_word-trap.result in
+    let v = c.value.ensures.value in
+    let is = c.of_word-trap.ensures.rest in (
+      is_not_whole blocks check r (omega arith) is (λ e. c.if-value-eq0.false (v ∙ e)),
+      burst_of_remainder blocks check r (omega arith) is None c.in-None.ensures.burst,
       refl,
     )

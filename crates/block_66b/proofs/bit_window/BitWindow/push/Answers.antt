@@ -17,6 +17,6 @@ pub returns-clause-answer : goal.returns-clause-answer
 returns-clause-answer c = λ rest taken h.
     let b = c.bits_and_numbers.ensures in
     let seen = rw (← c.self.view_is) at h in
-    c.across-block.ensures
+    c.across-block.ensures.block
     ∙ sym (window-value b.length b.value_of_bits b.append c.self.inside.rest taken c.self.inside.last c.args.tick (omega arith) (omega arith) seen.keeps_last)
     ∙ ap (λ k. value (window k (taken ++ bits 66 c.args.tick))) seen.keeps_rest

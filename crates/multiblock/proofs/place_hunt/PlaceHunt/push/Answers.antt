@@ -2,7 +2,7 @@ use Rattle.std.proofs.Common.{◌∙◌, ap, refl, arith}
 use Rattle.std.specs.Prelude.{None}
 use Rattle.std.specs.Int.{bit_at}
 use Rattle.std.proofs.lemmas.Nat.Bits.{bit_at-zero}
-use Rattle.multiblock.proofs.Hunting.{Took, pushed}
+use Rattle.multiblock.proofs.Hunting.{Took, pushed, place-rest, place-next}
 use Rattle.multiblock.proofs.place_hunt.PlaceHunt.push.Goals as goal
 
 pub returns-then-phases-eq0-clause-answer : goal.returns-then-phases-eq0-clause-answer
@@ -40,3 +40,13 @@ returns-clause-hunts_on c = λ e taken h none.
     c.take.ensures.most h c.phases-phases.ensures c.place_in.result
     c.place_in.ensures.some
     c.place_in.ensures.none).1 none
+
+pub returns-clause-rest : goal.returns-clause-rest
+returns-clause-rest c =
+    place-rest c.take.new.self c.phases-phases.result c.place_in.result c.place_in.ensures.some
+
+pub returns-clause-next : goal.returns-clause-next
+returns-clause-next c =
+    let t = c.take.ensures in
+    let p = c.place_in in
+    place-next c.args.self.now c.take.new.self c.phases-phases.result p.result t.e t.least p.ensures.some

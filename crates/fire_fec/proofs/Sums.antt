@@ -1,11 +1,10 @@
--- A byte at a time, by a table.
-use Rattle.std.proofs.Common.{◌≡◌, ℕ, zero, suc, ◌+◌, ◌-◌, ◌*◌, ◌/◌, ◌%◌, ◌^◌, ◌<◌, ◌≤◌, ◌==◌, Bool, true, slice_index, refl, sym, ◌∙◌, ap, ap₂, zero-add, arith, inl, inr, bit_xor}
-use Rattle.std.specs.Int.Bits.{xor_assoc, xor_self, xor_zero_r, xor_block, xor_shifted}
+-- Sums of remainders times powers of x.
+use Rattle.std.proofs.Common.{◌≡◌, ℕ, zero, suc, ◌+◌, ◌-◌, ◌*◌, ◌^◌, ◌<◌, ◌≤◌, refl, sym, ◌∙◌, ap, ap₂, zero-add, arith, inl, inr, bit_xor}
+use Rattle.std.specs.Int.Bits.{xor_assoc, xor_self, xor_zero_r, xor_block}
 use Rattle.std.proofs.lemmas.Nat.{xor_comm, xor_lt}
-use Rattle.std.proofs.lemmas.Bool.{cases_lt, lt-ltb, le-ltb, eqb-true}
+use Rattle.std.proofs.lemmas.Bool.{cases_lt, lt-ltb, le-ltb}
 use Rattle.fire_fec.specs.Shifting.{times_x, times_pow}
-use Rattle.fire_fec.specs.declared.remainder.TheConstants.{TABLE}
-use Rattle.fire_fec.proofs.Free.{all_below, all_below_at, times_x_small}
+use Rattle.fire_fec.proofs.Free.{times_x_small}
 
 twice : (a b : ℕ) → 2 * bit_xor a b ≡ bit_xor (2 * a) (2 * b)
 twice a b =
@@ -73,38 +72,3 @@ pub times_pow_linear : (n a b : ℕ) → a < 2 ^ 26 → b < 2 ^ 26 → times_pow
 unfolding times_pow
 times_pow_linear zero a b la lb = refl
 times_pow_linear (suc n) a b la lb = ap (times_pow n) (times_x_linear a b la lb) ∙ times_pow_linear n (times_x a) (times_x b) (times_x_small a la) (times_x_small b lb)
-
-no_carry : (a : ℕ) → a < 2 ^ 18 → times_pow 8 a ≡ a * 2 ^ 8
-unfolding times_pow
-no_carry a lt =
-    let doubled : (n b c : ℕ) → b < 2 ^ 25 → c ≡ 2 * b → times_pow n (times_x b) ≡ times_pow n c = λ n b c small e. ap (times_pow n) (low b small ∙ sym e) in
-    doubled 7 a (a * 2 ^ 1) (omega arith) (omega arith)
-    ∙ doubled 6 (a * 2 ^ 1) (a * 2 ^ 2) (omega arith) (omega arith)
-    ∙ doubled 5 (a * 2 ^ 2) (a * 2 ^ 3) (omega arith) (omega arith)
-    ∙ doubled 4 (a * 2 ^ 3) (a * 2 ^ 4) (omega arith) (omega arith)
-    ∙ doubled 3 (a * 2 ^ 4) (a * 2 ^ 5) (omega arith) (omega arith)
-    ∙ doubled 2 (a * 2 ^ 5) (a * 2 ^ 6) (omega arith) (omega arith)
-    ∙ doubled 1 (a * 2 ^ 6) (a * 2 ^ 7) (omega arith) (omega arith)
-    ∙ doubled 0 (a * 2 ^ 7) (a * 2 ^ 8) (omega arith) (omega arith)
-
-is_entry : ℕ → Bool
-is_entry i = slice_index TABLE i == times_pow 8 (i * 2 ^ 18)
-
-computed-table : all_below is_entry 256 ≡ true
-unfolding is_entry times_x times_pow
-computed-table = refl
-
-pub by_table : (r b : ℕ) → r < 2 ^ 26 → b < 256 → bit_xor (r % 0x40000 * 2 ^ 8) (slice_index TABLE (bit_xor (r / 2 ^ 18) b)) ≡ times_pow 8 (bit_xor r (b * 2 ^ 18))
-unfolding is_entry
-by_table r b lr lb =
-    let h : ℕ = bit_xor (r / 2 ^ 18) b in
-    let l : ℕ = r % 0x40000 in
-    let e : r ≡ r / 2 ^ 18 * 2 ^ 18 + l = omega arith in
-    let f : b * 2 ^ 18 ≡ b * 2 ^ 18 + 0 = omega arith in
-    let x = xor_block 18 (r / 2 ^ 18) b l 0 (omega arith) (omega arith) in
-    let hs = xor_lt 8 (r / 2 ^ 18) b (omega arith) lb in
-    let split : bit_xor r (b * 2 ^ 18) ≡ bit_xor (h * 2 ^ 18) l =
-    ap₂ bit_xor e f ∙ x ∙ ap (λ v. h * 2 ^ 18 + v) (xor_zero_r l) ∙ sym (xor_shifted h 18 l (omega arith)) in
-    let entry : slice_index TABLE h ≡ times_pow 8 (h * 2 ^ 18) = eqb-true _ _ (all_below_at is_entry 256 h computed-table hs) in
-    let plain : times_pow 8 l ≡ l * 2 ^ 8 = no_carry l (omega arith) in
-    sym (ap (times_pow 8) split ∙ times_pow_linear 8 (h * 2 ^ 18) l (omega arith) (omega arith) ∙ ap₂ bit_xor (sym entry) plain ∙ xor_comm (slice_index TABLE h) (l * 2 ^ 8))

@@ -1,11 +1,12 @@
 use Rattle.std.proofs.Common.{◌≡◌, ◌≢◌, ℕ, ◌+◌, ◌/◌, ◌^◌, ◌<◌, ◌≤◌}
 use Rattle.fire_fec.specs.Shifting.{over_pow}
-use Rattle.fire_fec.proofs.trap.trap.Given as goal
+use Rattle.fire_fec.proofs.burst.burst_of.Given as goal
 
 abbrev pub invariant-loop-shifts : goal.invariant-loop-shifts
 invariant-loop-shifts g l = record {
-  rest : l.rest ≡ over_pow l.shifts l.fn.rest;
-  small : l.rest < 2 ^ 26;
+  trap : l.trap ≡ over_pow l.shifts l.fn.trap;
+  small : l.trap < 2 ^ 26;
+  rises : l.fn.steps ≤ l.steps;
   steps : l.steps ≤ l.fn.steps + l.shifts;
-  none : (k : ℕ) → k < l.shifts → over_pow k l.fn.rest / 256 ≢ 1;
+  none : (k : ℕ) → k < l.shifts → over_pow k l.fn.trap / 256 ≢ 1;
 }

@@ -2,10 +2,10 @@ use Rattle.std.proofs.Common.{◌≡◌, ◌+◌, take}
 use Rattle.jesd_base.specs.Bits.{value}
 use Rattle.fire_fec.specs.Burst.{parity}
 use Rattle.fire_fec.specs.Corrects.{payload_bits}
-use Rattle.fire_fec.proofs.remainder.counted_parity.Given as goal
+use Rattle.fire_fec.proofs.trap.Trap.of_word.Given as goal
 
 abbrev pub invariant-loop-block : goal.invariant-loop-block
 invariant-loop-block g l = record {
-  parity : l.rest ≡ value (parity (payload_bits (take l.block-index l.payload)));
+  trap : l.trap ≡ value (parity (payload_bits (take l.block-index l.payload)));
   steps : l.steps ≡ l.fn.steps + l.block-index;
 }
