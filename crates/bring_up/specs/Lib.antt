@@ -1,3 +1,4 @@
 pub mod Classes
 pub mod Controls
 pub mod Decisions
+pub mod DecisionLaws

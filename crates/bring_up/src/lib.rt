@@ -12,10 +12,12 @@ mod alarm_row;
 mod class;
 mod control;
 mod judge;
+mod laws;
 mod stage;
 #[cfg(test)]
 mod tests;
 
 pub use alarm_row::AlarmRow;
 pub use control::Control;
+pub use laws::decision_laws;
 pub use stage::{Decision, Stage};

@@ -102,7 +102,7 @@ length-replaced (suc n) p coded =
     let h = length-replaced n p coded in
     length-append (replaced p coded n) (char_due p coded (replaced p coded n) n ∷ []) ∙ omega arith
 
-and_false : (b : Bool) → b && false ≡ false
+pub and_false : (b : Bool) → b && false ≡ false
 and_false true = refl
 and_false false = refl
 

@@ -30,30 +30,30 @@ started_b p t lane taken = (report_b p t lane taken).started
 -- ---- where the search stands
 
 -- no lock is found from bit x on
-record Nowhere (taken : List Taken) (x : ℕ) : Type 0 where
-  searches : Searches taken x
-  none : least_place x (drop x (bits_taken taken)) ≡ None
+pub record Nowhere (taken : List Taken) (x : ℕ) : Type 0 where
+  pub searches : Searches taken x
+  pub none : least_place x (drop x (bits_taken taken)) ≡ None
 
 -- the lock at place y is held
-record Holds (taken : List Taken) (x y : ℕ) : Type 0 where
-  searches : Searches taken x
-  least : least_place x (drop x (bits_taken taken)) ≡ Some y
-  inside : y + 40 ≤ length (bits_taken taken)
-  held : is_dropped taken (lock_at (bits_taken taken) y) ≡ false
+pub record Holds (taken : List Taken) (x y : ℕ) : Type 0 where
+  pub searches : Searches taken x
+  pub least : least_place x (drop x (bits_taken taken)) ≡ Some y
+  pub inside : y + 40 ≤ length (bits_taken taken)
+  pub held : is_dropped taken (lock_at (bits_taken taken) y) ≡ false
 
-cases-found : (o : Option ℕ) → ((y : ℕ) × (o ≡ Some y)) ⊎ (o ≡ None)
+pub cases-found : (o : Option ℕ) → ((y : ℕ) × (o ≡ Some y)) ⊎ (o ≡ None)
 cases-found (Some y) = inl (y, refl)
 cases-found None = inr refl
 
-cases-lock : (o : Option Lock) → ((l : Lock) × (o ≡ Some l)) ⊎ (o ≡ None)
+pub cases-lock : (o : Option Lock) → ((l : Lock) × (o ≡ Some l)) ⊎ (o ≡ None)
 cases-lock (Some l) = inl (l, refl)
 cases-lock None = inr refl
 
-not-is : (a : Bool) → not a ≡ true → a ≡ false
+pub not-is : (a : Bool) → not a ≡ true → a ≡ false
 not-is true e = cc
 not-is false e = refl
 
-place-inside : (taken : List Taken) (x y : ℕ) → x ≤ length (bits_taken taken) → least_place x (drop x (bits_taken taken)) ≡ Some y
+pub place-inside : (taken : List Taken) (x y : ℕ) → x ≤ length (bits_taken taken) → least_place x (drop x (bits_taken taken)) ≡ Some y
     → (x ≤ y) × (y + 40 ≤ length (bits_taken taken))
 place-inside taken x y within e =
     let z = zero_place x (drop x (bits_taken taken)) y e in
@@ -83,13 +83,13 @@ search-from (suc n) taken x tens s near = elim (cases-found (least_place x (drop
       ]
 ]
 
-search-stands : (taken : List Taken) → AreTens taken → ((y : ℕ) × Nowhere taken y) ⊎ ((y : ℕ) × (z : ℕ) × Holds taken y z)
+pub search-stands : (taken : List Taken) → AreTens taken → ((y : ℕ) × Nowhere taken y) ⊎ ((y : ℕ) × (z : ℕ) × Holds taken y z)
 search-stands taken tens =
     search-from (suc (length (bits_taken taken))) taken 0 tens (searches-more [] 0 taken searches-start) (omega arith)
 
 -- ---- starts and entries of a lock
 
-started-none : (p : Params) (t : Timing) (lane : ℕ) (taken : List Taken) → lock taken ≡ None → started_b p t lane taken ≡ None
+pub started-none : (p : Params) (t : Timing) (lane : ℕ) (taken : List Taken) → lock taken ≡ None → started_b p t lane taken ≡ None
 unfolding report_b
 started-none p t lane taken e = ap (λ o. (report_of p lane taken o).started) e
 
@@ -97,7 +97,7 @@ entries-none : (p : Params) (t : Timing) (lane : ℕ) (taken : List Taken) → l
 unfolding entries_b
 entries-none p t lane taken e = ap (entries_of p t taken) e
 
-started-lock : (p : Params) (t : Timing) (lane : ℕ) (taken : List Taken) (l : Lock) → lock taken ≡ Some l → started_b p t lane taken ≡ start_of taken l
+pub started-lock : (p : Params) (t : Timing) (lane : ℕ) (taken : List Taken) (l : Lock) → lock taken ≡ Some l → started_b p t lane taken ≡ start_of taken l
 unfolding report_b
 started-lock p t lane taken l e = ap (λ o. (report_of p lane taken o).started) e
 
@@ -106,10 +106,10 @@ entries-lock : (p : Params) (t : Timing) (lane : ℕ) (taken : List Taken) (l : 
 unfolding entries_b
 entries-lock p t lane taken l e = ap (entries_of p t taken) e
 
-start-begun : (taken : List Taken) (l : Lock) → is_empty (since_start l) ≡ false → start_of taken l ≡ Some (order_at taken (tick_of_start l)).offset
+pub start-begun : (taken : List Taken) (l : Lock) → is_empty (since_start l) ≡ false → start_of taken l ≡ Some (order_at taken (tick_of_start l)).offset
 start-begun taken l e = cond-false (is_empty (since_start l)) None (Some (order_at taken (tick_of_start l)).offset) e
 
-start-unbegun : (taken : List Taken) (l : Lock) → is_empty (since_start l) ≡ true → start_of taken l ≡ None
+pub start-unbegun : (taken : List Taken) (l : Lock) → is_empty (since_start l) ≡ true → start_of taken l ≡ None
 start-unbegun taken l e = cond-true (is_empty (since_start l)) None (Some (order_at taken (tick_of_start l)).offset) e
 
 -- a lane that has not started
@@ -122,7 +122,7 @@ unstarted-nowhere p t lane taken x tens n =
     let none = lock-none taken x tens n.searches n.none in
     record { started = started-none p t lane taken none; entries = entries-none p t lane taken none }
 
-lock-held : (taken : List Taken) (x y : ℕ) → AreTens taken → Holds taken x y → lock taken ≡ Some (lock_at (bits_taken taken) y)
+pub lock-held : (taken : List Taken) (x y : ℕ) → AreTens taken → Holds taken x y → lock taken ≡ Some (lock_at (bits_taken taken) y)
 lock-held taken x y tens o = lock-some taken x y tens o.searches o.least o.inside o.held
 
 unstarted-held : (p : Params) (t : Timing) (lane : ℕ) (taken : List Taken) (x y : ℕ) → AreTens taken → Holds taken x y
@@ -183,7 +183,7 @@ none-of : (o : Option ℕ) (x : ℕ) → option_map (λ y. x + y) o ≡ None →
 none-of None x e = refl
 none-of (Some y) x e = let bad : Some (x + y) ≡ None = e in absurd (cc)
 
-none-zero : (x : ℕ) (bs : List Bool) → least_place x bs ≡ None → least_place 0 bs ≡ None
+pub none-zero : (x : ℕ) (bs : List Bool) → least_place x bs ≡ None → least_place 0 bs ≡ None
 none-zero x bs e = none-of (least_place 0 bs) x (sym (least_place-from x bs) ∙ e)
 
 found-nothing : (bs : List Bool) → least_place 0 bs ≡ None → found bs ≡ None

@@ -20,3 +20,7 @@ pub mod NextOctet
 pub mod Ticks
 pub mod EntriesMore
 pub mod LaneEntries
+pub mod OneChain
+pub mod OneLock
+pub mod Lasting
+pub mod Ties

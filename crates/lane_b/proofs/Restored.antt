@@ -13,7 +13,7 @@ use Rattle.char_replace.specs.Replacement.{ends_frame, ends_multiframe}
 use Rattle.char_replace.specs.Restoring.{IsRestored, given_at, is_accepted, is_bad_char, is_repeat, nothing}
 use Rattle.lane_b.specs.Received.{restored}
 
-length-restored : (n : ℕ) (p : Params) (read : List Reading) → length (restored p read n) ≡ n
+pub length-restored : (n : ℕ) (p : Params) (read : List Reading) → length (restored p read n) ≡ n
 unfolding restored
 length-restored zero p read = refl
 length-restored (suc n) p read =
@@ -36,7 +36,7 @@ accepts-none p o some = elim (cases_Bool p.scr) [
       rw (plain, early) (and_right (((o == 0x7C) && ends_multiframe p 0) || ((o == 0xFC) && ends_frame p 0)) false refl)
 ]
 
-repeats-none : (p : Params) (r : Reading) → 1 ≤ p.f → is_repeat p 0 r ≡ false
+pub repeats-none : (p : Params) (r : Reading) → 1 ≤ p.f → is_repeat p 0 r ≡ false
 repeats-none p (Read (Data o)) some = elim (cases_Bool p.scr) [ inl scr ↦ rw scr refl | inr plain ↦ rw plain refl ]
 repeats-none p (Read (Control o)) some = accepts-none p o some
 repeats-none p (Disparity (Data o)) some = elim (cases_Bool p.scr) [ inl scr ↦ rw scr refl | inr plain ↦ rw plain refl ]

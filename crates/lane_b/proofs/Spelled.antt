@@ -69,7 +69,7 @@ encoded (Some v) rd q e =
 
 -- ---- the sequence's characters
 
-one_of_five : (a b c d : Bool) (v w x y z : Char) → HasSpellings v → HasSpellings w → HasSpellings x → (y ≡ (if a then v else (if b then w else (if c then x else (if d then y else z)))) → HasSpellings y)
+pub one_of_five : (a b c d : Bool) (v w x y z : Char) → HasSpellings v → HasSpellings w → HasSpellings x → (y ≡ (if a then v else (if b then w else (if c then x else (if d then y else z)))) → HasSpellings y)
     → (z ≡ (if a then v else (if b then w else (if c then x else (if d then y else z)))) → HasSpellings z)
     → HasSpellings (if a then v else (if b then w else (if c then x else (if d then y else z))))
 one_of_five true b c d v w x y z one two three four five = one

@@ -24,7 +24,7 @@ use Rattle.lane_b.proofs.KeptPlaces.{alignment-kept, data-mod, kept-mod, kept-ne
 
 -- ---- faults and alignment characters
 
-faults-push : (rs : List Reading) (p : Params) (x : ℕ) (r : Reading) → faults_from p x (rs ++ r ∷ []) ≡ faults_from p x rs ++ is_fault p (x + length rs) r ∷ []
+pub faults-push : (rs : List Reading) (p : Params) (x : ℕ) (r : Reading) → faults_from p x (rs ++ r ∷ []) ≡ faults_from p x rs ++ is_fault p (x + length rs) r ∷ []
 unfolding faults_from
 faults-push [] p x r = rw add-zero refl
 faults-push (q ∷ rs) p x r =
@@ -36,7 +36,7 @@ with_option-append : (a : Option Bool) (xs ys : List Bool) → with_option a (xs
 with_option-append (Some b) xs ys = refl
 with_option-append None xs ys = refl
 
-alignments-push : (rs : List Reading) (p : Params) (x : ℕ) (r : Reading)
+pub alignments-push : (rs : List Reading) (p : Params) (x : ℕ) (r : Reading)
     → alignments_from p x (rs ++ r ∷ []) ≡ alignments_from p x rs ++ with_option (alignment_at p (x + length rs) r) []
 unfolding alignments_from
 alignments-push [] p x r = rw add-zero refl
@@ -48,7 +48,7 @@ alignments-push (q ∷ rs) p x r =
 
 -- ---- the check of the sequence
 
-fault_or-not_done : (x : ℕ) (cause : Option IlasCause) (s : IlasState) → s ≢ Done → fault_or x cause s ≢ Done
+pub fault_or-not_done : (x : ℕ) (cause : Option IlasCause) (s : IlasState) → s ≢ Done → fault_or x cause s ≢ Done
 fault_or-not_done x (Some cause) s going e = cc
 fault_or-not_done x None s going e = going e
 

@@ -10,3 +10,4 @@ pub mod Ticks
 pub mod Counts
 pub mod Cells
 pub mod Starts
+pub mod LaneLaws

@@ -11,6 +11,7 @@
 
 mod alignment;
 mod chars;
+mod laws;
 mod loss;
 mod octets;
 mod receiver;
@@ -23,5 +24,8 @@ mod tests_sender;
 #[cfg(test)]
 mod tests_started;
 
+pub use laws::{
+    entries_by_ticks, lasting_reports, one_chain, one_lock, replaced_and_restored, ten_bits_a_tick,
+};
 pub use receiver::RxLaneB;
 pub use sender::TxLaneB;

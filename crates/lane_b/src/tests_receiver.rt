@@ -3,7 +3,9 @@ ghost use Rattle.std.specs.Prelude.{◌≡◌, ◌<◌, IfSome};
 ghost use Rattle.link_params.specs.declared.fields.Mode.TheVariants.{B};
 
 use crate::RxLaneB;
-use link_params::{IlasCause, IlasState, LaneReport, Link, Mode, Params, RxOrder, Timing};
+use link_params::{
+    IlasCause, IlasState, LaneCell, LaneReport, Link, Mark, Mode, Params, RxOrder, Timing,
+};
 use std::alloc::Global;
 use std::test::Fail;
 
@@ -70,6 +72,14 @@ impl Bench {
         if order.hunt || self.lane.held() < self.depth {
             self.lane.take(order, word & 0x3FF);
         }
+    }
+
+    // What the lane gives, where it holds an entry.
+    fn give(&mut self) -> Option<Option<LaneCell>> {
+        if self.lane.held() == 0 {
+            return None;
+        }
+        Some(self.lane.give())
     }
 
     // Takes characters that come `phase` bits after the ticks' beginnings, from the second one on.
@@ -203,6 +213,35 @@ fn bits_of_no_lane(rt: HostRuntime) -> Result<(), Fail> {
         assert_eq!(rt; bench.lane.report(), started(6, false, wrong), "{first}");
         bench.take_words(&WAIT, 4_096, first, factor, more);
         assert_eq!(rt; bench.lane.report(), started(6, lost, wrong), "{first}");
+    }
+    Ok(())
+}
+
+// The places of the alignment sequence, four multiframes of 17, give nothing; then each character
+// of data gives its octet: D21.5, D10.2, and ten bits that are no character.
+#[test]
+fn gives_places_and_then_data(rt: HostRuntime) -> Result<(), Fail> {
+    let mut bench = Bench::open(rt.alloc()).ok_or("memory")?;
+    bench.take_all(&HUNT, 0, &[0, K]);
+    bench.take_all(&WAIT, 0, &[K, L, K, L]);
+    assert_eq!(rt; bench.give(), None);
+    for place in 0..68 {
+        bench.take(&armed(6), if place == 0 { R } else { D });
+        assert_eq!(rt; bench.give(), Some(None), "{place}");
+        assert_eq!(rt; bench.lane.held(), 0, "{place}");
+    }
+    for (word, value, mark) in [
+        (D, 0xB5, Mark::Ok),
+        (0x155, 0x4A, Mark::Ok),
+        (0x3FF, 0, Mark::Bad),
+        (D, 0xB5, Mark::Ok),
+    ] {
+        bench.take(&WAIT, word);
+        assert_eq!(rt;
+            bench.give(),
+            Some(Some(LaneCell { value, mark })),
+            "{word}"
+        );
     }
     Ok(())
 }
