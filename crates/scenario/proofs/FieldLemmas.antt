@@ -4,7 +4,8 @@ use Rattle.csv.specs.Records.{field_at}
 use Rattle.scenario.specs.Text.{Text, stripped}
 use Rattle.scenario.specs.Reads.{field}
 
-pub field-Some : (fs : List Text) (i : ℕ) (f : Text) → Some f ≡ field_at fs i → stripped f ≡ field (map stripped fs) i
+pub field-Some : (fs : List Text) (i : ℕ) (f : Text) → Some f ≡ field_at fs i
+    → stripped f ≡ field (map stripped fs) i
 unfolding field_at
 field-Some [] i f e = cc e
 field-Some (x ∷ xs) zero f e = let same : f ≡ x = cc e in ap stripped same

@@ -5,4 +5,5 @@ use Rattle.scenario.specs.Reads.{flipped}
 
 pub flipped-more : (fs : List Flip) (f : Flip) → flipped (fs ++ f ∷ []) ≡ flipped fs + f.count
 flipped-more [] f = omega arith
-flipped-more (g ∷ gs) f = let e : flipped (gs ++ f ∷ []) ≡ flipped gs + f.count = flipped-more gs f in omega arith
+flipped-more (g ∷ gs) f = let e : flipped (gs ++ f ∷ []) ≡ flipped gs + f.count =
+    flipped-more gs f in omega arith

@@ -10,3 +10,4 @@ pub mod ScenarioLemmas
 pub mod SoundLemmas
 pub mod LineLemmas
 pub mod SourceLemmas
+pub mod ReadingLaws

@@ -10,9 +10,11 @@ use Rattle.link_params.specs.declared.fields.Params.{Params}
 use Rattle.link_params.specs.Links.{Link}
 use Rattle.scenario.specs.declared.scenario_type.Scenario.{Scenario}
 use Rattle.scenario.specs.Limits.{has_words}
-use Rattle.scenario.specs.Plans.{Plan, Source, numbers_from, plan_of, plan_with, source_frame, source_in, source_word}
+use Rattle.scenario.specs.Plans.{Plan, Source, frame_of_source, numbers_from, plan_of, plan_with, source_frame, source_in}
 
-from-items : (xs : List ℕ) (f : ℕ → ℕ) (b : ℕ) → ((k : ℕ) → k < length xs → get_or xs k 0 ≡ f (b + k)) → xs ≡ map f (numbers_from b (length xs))
+from-items : (xs : List ℕ) (f : ℕ → ℕ) (b : ℕ)
+    → ((k : ℕ) → k < length xs → get_or xs k 0 ≡ f (b + k))
+    → xs ≡ map f (numbers_from b (length xs))
 unfolding numbers_from
 from-items [] f b each = refl
 from-items (x ∷ xs) f b each =
@@ -25,7 +27,8 @@ from-items (x ∷ xs) f b each =
     ap₂ (λ (y : ℕ) (ys : List ℕ). y ∷ ys) (each 0 some ∙ ap f e) more
 
 -- a list by its items
-pub listed : (xs : List ℕ) (f : ℕ → ℕ) → ((k : ℕ) → k < length xs → get_or xs k 0 ≡ f k) → xs ≡ map f (numbers_from 0 (length xs))
+pub listed : (xs : List ℕ) (f : ℕ → ℕ) → ((k : ℕ) → k < length xs → get_or xs k 0 ≡ f k)
+    → xs ≡ map f (numbers_from 0 (length xs))
 listed xs f each = from-items xs f 0 (λ k lt. let e : k ≡ 0 + k = omega arith in each k lt ∙ ap f e)
 
 pub map-same : (xs : List ℕ) (f g : ℕ → ℕ) → ((k : ℕ) → f k ≡ g k) → map f xs ≡ map g xs
@@ -39,18 +42,22 @@ mod-below x bits le =
     ap (λ w. x % 2 ^ w % 2 ^ bits) e ∙ mod-mod-pow x (64 - bits) bits
 
 -- the low bits of a value that was taken modulo 2^64
-pub masked : (value x bits : ℕ) → bits ≤ 32 → value ≡ x % 2 ^ 64 → bit_and value (1 * 2 ^ bits % 2 ^ 64 - 1) ≡ x % 2 ^ bits
+pub masked : (value x bits : ℕ) → bits ≤ 32 → value ≡ x % 2 ^ 64
+    → bit_and value (1 * 2 ^ bits % 2 ^ 64 - 1) ≡ x % 2 ^ bits
 masked value x bits le is =
     let lt : bits < 64 = omega arith in
-    ap (λ m. bit_and value (m - 1)) (one_shl bits 64 lt) ∙ and_mask value bits ∙ ap (λ v. v % 2 ^ bits) is ∙ mod-below x bits le
+    ap (λ m. bit_and value (m - 1)) (one_shl bits 64 lt) ∙ and_mask value bits
+    ∙ ap (λ v. v % 2 ^ bits) is ∙ mod-below x bits le
 
 -- one step more of a ramp
-pub ramp-next : (first step k w : ℕ) → ((first + step * k) % w + step) % w ≡ (first + step * (k + 1)) % w
+pub ramp-next : (first step k w : ℕ)
+    → ((first + step * k) % w + step) % w ≡ (first + step * (k + 1)) % w
 ramp-next first step k w =
     let e : first + step * k + step ≡ first + step * (k + 1) = omega arith in
     mod-add-mod (first + step * k) w step ∙ ap (λ x. x % w) e
 
-ramp-mod : (start step p k w : ℕ) → ((start + (step * (p % w)) % w) % w + step * k) % w ≡ (start + step * (p + k)) % w
+ramp-mod : (start step p k w : ℕ) → ((start + (step * (p % w)) % w) % w + step * k) % w
+    ≡ (start + step * (p + k)) % w
 ramp-mod start step p k w =
     let q : ℕ = (step * p) % w in
     let e : start + q + step * k ≡ q + (start + step * k) = omega arith in
@@ -63,7 +70,8 @@ ramp-mod start step p k w =
 
 -- a word of a ramp whose first word was taken modulo 2^64
 pub ramp-word : (start step p k bits : ℕ) → bits ≤ 32
-    → ((start + (step * (p % 2 ^ 64)) % 2 ^ 64) % 2 ^ 64 + step * k) % 2 ^ bits ≡ (start + step * (p + k)) % 2 ^ bits
+    → ((start + (step * (p % 2 ^ 64)) % 2 ^ 64) % 2 ^ 64 + step * k) % 2 ^ bits
+    ≡ (start + step * (p + k)) % 2 ^ bits
 ramp-word start step p k bits le =
     sym (mod-below ((start + (step * (p % 2 ^ 64)) % 2 ^ 64) % 2 ^ 64 + step * k) bits le)
     ∙ ap (λ x. x % 2 ^ bits) (ramp-mod start step p k (2 ^ 64))
@@ -74,26 +82,34 @@ pub some-frames : (size len : ℕ) → len % size ≡ 0 → 1 ≤ len → (size 
 some-frames size len whole some =
     let e : size * (len / size) + len % size ≡ len = div-add-mod len size in
     elim (cases_lt (len / size) 1) [
-      | inl few ↦ let none : len / size ≡ 0 = omega arith in let z : size * (len / size) ≡ size * 0 = ap (λ q. size * q) none in absurd (omega arith)
-      | inr many ↦ let m : size * 1 ≤ size * (len / size) = mul-le-mul_left size many in (omega arith, omega arith)
+      | inl few ↦ let none : len / size ≡ 0 = omega arith in
+          let z : size * (len / size) ≡ size * 0 = ap (λ q. size * q) none in absurd (omega arith)
+      | inr many ↦ let m : size * 1 ≤ size * (len / size) = mul-le-mul_left size many in
+          (omega arith, omega arith)
     ]
 
 -- a frame that is counted by division lies within
 frame-within : (frame size len : ℕ) → frame < len / size → frame * size + size ≤ len
 frame-within frame size len lt =
-    let m : (frame + 1) * size ≤ len / size * size = mul-le-mul_right size (let h : frame + 1 ≤ len / size = omega arith in h) in
+    let m : (frame + 1) * size ≤ len / size * size =
+    mul-le-mul_right size (let h : frame + 1 ≤ len / size = omega arith in h) in
     let e : size * (len / size) + len % size ≡ len = div-add-mod len size in
     omega arith
 
 -- the words of a frame that repeats
 pub repeated : (frames : List ℕ) (size n : ℕ) → 0 < length frames / size
-    → take size (drop (n % (length frames / size) * size) frames) ≡ map (λ k. get_or frames (n % (length frames / size) * size + k) 0) (numbers_from 0 size)
+    → take size (drop (n % (length frames / size) * size) frames)
+    ≡ map (λ k. get_or frames (n % (length frames / size) * size + k) 0) (numbers_from 0 size)
 repeated frames size n some =
     let at : ℕ = n % (length frames / size) * size in
-    let within : at + size ≤ length frames = frame-within (n % (length frames / size)) size (length frames) (mod_below n (length frames / size) some) in
+    let within : at + size ≤ length frames = frame-within (n % (length frames / size)) size
+    (length frames) (mod_below n (length frames / size) some) in
     let rest : size ≤ length (drop at frames) = rw length-drop (omega arith) in
-    let len : length (take size (drop at frames)) ≡ size = length-take-le size (drop at frames) rest in
-    listed (take size (drop at frames)) (λ k. get_or frames (at + k) 0) (λ k lt. let below : k < size = omega arith in get_or-take size (drop at frames) k 0 below ∙ get_or-drop at frames k 0)
+    let len : length (take size (drop at frames)) ≡ size =
+    length-take-le size (drop at frames) rest in
+    listed (take size (drop at frames)) (λ k. get_or frames (at + k) 0)
+    (λ k lt. let below : k < size = omega arith in get_or-take size (drop at frames) k 0 below
+    ∙ get_or-drop at frames k 0)
     ∙ ap (λ m. map (λ k. get_or frames (at + k) 0) (numbers_from 0 m)) len
 
 -- what a plan keeps of its scenario
@@ -102,15 +118,28 @@ pub record Kept (s : Scenario) (plan : Plan) : Type 0 where
   pub source : plan.source ≡ source_in s.input
   pub words : IsTrue (has_words s.input)
 
-plan-with : (link : Option Link) (s : Scenario) (plan : Plan) → ForSome link (λ k. k.params ≡ s.shape) → ForSome link (λ k. IsTrue (has_words s.input))
+plan-with : (link : Option Link) (s : Scenario) (plan : Plan)
+    → ForSome link (λ k. k.params ≡ s.shape) → ForSome link (λ k. IsTrue (has_words s.input))
     → plan_with link s ≡ Some plan → Kept s plan
 plan-with None s plan same some is = absurd (cc)
-plan-with (Some k) s plan same some is = let e : k.params ≡ s.shape = same k refl in record { params = cc; source = cc; words = some k refl }
+plan-with (Some k) s plan same some is = let e : k.params ≡ s.shape = same k refl in
+    record { params = cc; source = cc; words = some k refl }
 
 pub plan-kept : (s : Scenario) (plan : Plan) → plan_of s ≡ Some plan → Kept s plan
 plan-kept s plan is = plan-with s.link s plan s.same_shape s.some_words is
 
-pub frame-of : (plan : Plan) (p : Params) (source : Source) (n : ℕ) → plan.link.params ≡ p → plan.source ≡ source
-    → source_frame plan n ≡ map (source_word p source n) (numbers_from 0 (p.m * p.s))
+-- the source frame of a plan is the frame of its source
+pub frame-of : (plan : Plan) (p : Params) (source : Source) (n : ℕ) → plan.link.params ≡ p
+    → plan.source ≡ source
+    → source_frame plan n ≡ frame_of_source p source n
 unfolding source_frame
-frame-of plan p source n params is = ap₂ (λ (q : Params) (t : Source). map (source_word q t n) (numbers_from 0 (q.m * q.s))) params is
+frame-of plan p source n params is = ap₂ (λ (q : Params) (t : Source). frame_of_source q t n) params
+    is
+
+-- the words of a frame, as the frame of a plan
+pub as-planned : (s : Scenario) (n : ℕ) (words : List ℕ)
+    → words ≡ frame_of_source s.shape (source_in s.input) n
+    → (plan : Plan) → plan_of s ≡ Some plan → words ≡ source_frame plan n
+as-planned s n words is plan read =
+    let kept = plan-kept s plan read in is
+    ∙ sym (frame-of plan s.shape (source_in s.input) n kept.params kept.source)

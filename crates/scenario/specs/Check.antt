@@ -1,11 +1,13 @@
 -- The checks of one record: the first that fails counts.
 use Rattle.std.specs.Prelude.{◌≡◌, ℕ, ◌+◌, ◌==◌, Bool, List, [], ◌∷◌, Option, Some, None, Result, Ok, Err, if◌then◌else◌, option_map}
+use Rattle.scenario.specs.declared.cause.Cause.{Cause}
+use Rattle.scenario.specs.declared.cause.Cause.TheVariants as cause
 use Rattle.scenario.specs.declared.fault.Fault.{Fault}
 use Rattle.scenario.specs.declared.fault.RecordFault.{RecordFault}
 use Rattle.scenario.specs.declared.fault.RecordFault.TheVariants.{Bad, NoMemory}
 
 -- a fault: the cause, and the place in the record
-abbrev pub fault : ℕ → ℕ → Fault
+abbrev pub fault : Cause → ℕ → Fault
 fault c a = record { cause = c; at = a }
 
 -- the first fault of these
@@ -23,8 +25,8 @@ abbrev pub lowest : ℕ → List Bool → Option ℕ
 lowest i [] = None
 lowest i (b ∷ bs) = if b then lowest (i + 1) bs else Some i
 
--- what a record is checked for, in this order: how many fields follow the kind, the written form of each, the range of
--- each, and what is special to the kind
+-- what a record is checked for, in this order: how many fields follow the kind, the written form of
+-- each, the range of each, and what is special to the kind
 pub record Checks : Type 0 where
   pub count : ℕ
   pub forms : List Bool
@@ -34,9 +36,9 @@ pub record Checks : Type 0 where
 -- the first fault of the count, the forms and the ranges
 abbrev pub basic_fault : ℕ → Checks → Option Fault
 basic_fault fields c = first (
-    unless (fields == c.count + 1) (fault 5 fields)
-    ∷ option_map (fault 6) (lowest 1 c.forms)
-    ∷ option_map (fault 7) (lowest 1 c.ranges)
+    unless (fields == c.count + 1) (fault cause.FieldCount fields)
+    ∷ option_map (fault cause.Form) (lowest 1 c.forms)
+    ∷ option_map (fault cause.Range) (lowest 1 c.ranges)
     ∷ [])
 
 -- the first fault of a record with so many fields
@@ -54,7 +56,8 @@ ReadOr wrong due (Ok x) = (wrong ≡ None) × (x ≡ due)
 ReadOr wrong due (Err f) = wrong ≡ Some f
 
 -- the same of a reader that keeps items, and so may want memory
-abbrev pub KeptOr : {X : Type 0} → Option Fault → List X → List X → Result (Unit {0}) RecordFault → Type 0
+abbrev pub KeptOr : {X : Type 0} → Option Fault → List X → List X → Result (Unit {0}) RecordFault
+    → Type 0
 KeptOr wrong new due (Ok u) = (wrong ≡ None) × (new ≡ due)
 KeptOr wrong new due (Err (Bad f)) = wrong ≡ Some f
 KeptOr wrong new due (Err NoMemory) = Unit {0}

@@ -1,4 +1,5 @@
 pub mod Text
+pub mod Causes
 pub mod Check
 pub mod Reads
 pub mod Sound
@@ -9,3 +10,4 @@ pub mod Answer
 pub mod Digits
 pub mod ReportLines
 pub mod TextRooms
+pub mod ReadingLaws

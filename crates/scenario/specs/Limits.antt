@@ -1,5 +1,5 @@
 -- What the values of a scenario obey.
-use Rattle.std.specs.Prelude.{ℕ, ◌+◌, ◌-◌, ◌*◌, nat_le, nat_lt, ◌&&◌, Bool, true, length, pos, neg_ℤ, int_le}
+use Rattle.std.specs.Prelude.{ℕ, ◌+◌, ◌-◌, ◌*◌, nat_le, nat_lt, ◌&&◌, Bool, true, false, length, pos, neg_ℤ, int_le}
 use Rattle.link_params.specs.declared.fields.Params.{Params}
 use Rattle.link_params.specs.Numbers.{period, width}
 use Rattle.scenario.specs.declared.input.Input.{Input}
@@ -21,10 +21,12 @@ abbrev pub event_fits : Params → ℕ → Event → Bool
 event_fits p ticks e = nat_lt e.tick ticks && what_fits p e.what
 
 abbrev pub jitter_fits : Jitter → Bool
-jitter_fits j = nat_le j.edge 1048576 && (int_le (neg_ℤ (pos 32)) j.sixteenths && int_le j.sixteenths (pos 32))
+jitter_fits j = nat_le j.edge 1048576
+    && (int_le (neg_ℤ (pos 32)) j.sixteenths && int_le j.sixteenths (pos 32))
 
 abbrev pub flip_fits : Params → ℕ → Flip → Bool
-flip_fits p ticks f = nat_lt f.lane p.l && (nat_le 1 f.count && nat_le (f.first + f.count) (width p * ticks))
+flip_fits p ticks f = nat_lt f.lane p.l
+    && (nat_le 1 f.count && nat_le (f.first + f.count) (width p * ticks))
 
 -- the start and the step of a ramp are words
 abbrev pub ramp_fits : Params → Input → Bool
@@ -35,3 +37,8 @@ ramp_fits p (Frames words) = true
 abbrev pub has_words : Input → Bool
 has_words (Ramp start step) = true
 has_words (Frames words) = nat_le 1 (length words.items)
+
+-- the words are those of frames, and of no ramp
+abbrev pub is_frames : Input → Bool
+is_frames (Ramp start step) = false
+is_frames (Frames words) = true

@@ -15,13 +15,14 @@ use Rattle.scenario.specs.declared.stage.Stage.{Stage}
 use Rattle.scenario.specs.declared.stage.Stage.TheVariants as stage
 use Rattle.scenario.specs.Reads.{Seen, word_limit}
 
--- where the words of source frames come from: a ramp with its start and its step, or the words of frames
+-- where the words of source frames come from: a ramp with its start and its step, or the words of
+-- frames
 pub data Source : Type 0 where
   Ramp : ℕ → ℕ → Source
   Frames : List ℕ → Source
 
--- a run: the link, the ticks, what is printed, the source, the events in the order of ticks, and in the order of records those of
--- one tick, the jitters and the flips
+-- a run: the link, the ticks, what is printed, the source, the events in the order of ticks, and in
+-- the order of records those of one tick, the jitters and the flips
 pub record Plan : Type 0 where
   pub link : Link
   pub ticks : ℕ
@@ -41,11 +42,16 @@ numbers_from a (suc n) = a ∷ numbers_from (suc a) n
 -- word k of source frame n
 abbrev pub source_word : Params → Source → ℕ → ℕ → ℕ
 source_word p (Ramp start step) n k = (start + step * (n * (p.m * p.s) + k)) % word_limit p
-source_word p (Frames words) n k = slice_index words (n % (length words / (p.m * p.s)) * (p.m * p.s) + k)
+source_word p (Frames words) n k =
+    slice_index words (n % (length words / (p.m * p.s)) * (p.m * p.s) + k)
 
--- the M·S words of source frame n
+-- the M·S words of frame n of a source
+abbrev pub frame_of_source : Params → Source → ℕ → List ℕ
+frame_of_source p source n = map (source_word p source n) (numbers_from 0 (p.m * p.s))
+
+-- the M·S words of source frame n of a run
 unfoldable pub source_frame : Plan → ℕ → List ℕ
-source_frame s n = map (source_word s.link.params s.source n) (numbers_from 0 (s.link.params.m * s.link.params.s))
+source_frame s n = frame_of_source s.link.params s.source n
 
 -- ---- the plan that was read
 

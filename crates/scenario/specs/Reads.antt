@@ -1,5 +1,5 @@
--- What an input says to a job, or the first thing that is wrong with it: a table of checks for each kind of record, and a
--- fold over the records.
+-- What an input says to a job, or the first thing that is wrong with it: a table of checks for each
+-- kind of record, and a fold over the records.
 -- Code: one record at a time, with an early exit.
 use Rattle.std.specs.Prelude.{◌≡◌, ℕ, zero, suc, ◌+◌, ◌-◌, ◌*◌, ◌/◌, ◌^◌, ◌==◌, ◌&&◌, ◌||◌, not, nat_lt, nat_le, Bool, true, false, List, [], ◌∷◌, ◌++◌, length, map, Option, Some, None, Result, Ok, Err, if◌then◌else◌, codes, is_some, is_none, unwrap_or, option_map, drop, ℤ, pos, neg_ℤ, int_le}
 use Rattle.std.specs.Str.{bytes_eq}
@@ -16,6 +16,7 @@ use Rattle.link_params.specs.Links.{Link}
 use Rattle.link_params.specs.Laws.{broken_law, is_b}
 use Rattle.link_params.specs.Numbers.{octets_per_tick, period, width}
 use Rattle.link_params.specs.TimingLaws.{broken_timing}
+use Rattle.scenario.specs.declared.cause.Cause.TheVariants as cause
 use Rattle.scenario.specs.declared.fault.Fault.{Fault}
 use Rattle.scenario.specs.declared.kind.Job.{Job}
 use Rattle.scenario.specs.declared.kind.Job.TheVariants as job
@@ -31,6 +32,7 @@ use Rattle.scenario.specs.declared.stage.Ramp.{Ramp}
 use Rattle.scenario.specs.declared.stage.Setup.{Setup}
 use Rattle.scenario.specs.declared.stage.Stage.{Stage}
 use Rattle.scenario.specs.declared.stage.Stage.TheVariants as stage
+use Rattle.scenario.specs.Causes.{cause_number}
 use Rattle.scenario.specs.Text.{Text, stripped, number, word, signed, is_hex, octets_of}
 use Rattle.scenario.specs.Check.{fault, unless, lowest, first, Checks, fault_of, or_fault}
 
@@ -62,10 +64,13 @@ abbrev pub numbers_from : ℕ → ℕ → List Text → List ℕ
 numbers_from i zero fields = []
 numbers_from i (suc n) fields = num fields i ∷ numbers_from (i + 1) n fields
 
--- what a reader of numbers answers: the numbers in the fields from place i on, or the first field with no number
+-- what a reader of numbers answers: the numbers in the fields from place i on, or the first field
+-- with no number
 abbrev pub ReadNumbers : ℕ → List Text → List ℕ → Result (Unit {0}) Fault → Type 0
-ReadNumbers i fields ns (Ok u) = (lowest i (are_numbers i (length ns) fields) ≡ None) × (ns ≡ numbers_from i (length ns) fields)
-ReadNumbers i fields ns (Err f) = option_map (fault 6) (lowest i (are_numbers i (length ns) fields)) ≡ Some f
+ReadNumbers i fields ns (Ok u) = (lowest i (are_numbers i (length ns) fields) ≡ None)
+    × (ns ≡ numbers_from i (length ns) fields)
+ReadNumbers i fields ns (Err f) =
+    option_map (fault cause.Form) (lowest i (are_numbers i (length ns) fields)) ≡ Some f
 
 abbrev pub is_word : Text → Bool
 is_word text = is_some (word text)
@@ -79,23 +84,29 @@ find_named text [] = None
 find_named text (p ∷ ps) = if bytes_eq text p.0 then Some p.1 else find_named text ps
 
 abbrev pub mode_of : Text → Option Mode
-mode_of text = find_named text ((codes "b", mode.B) ∷ (codes "ccrc", mode.CCrc) ∷ (codes "cfec", mode.CFec) ∷ [])
+mode_of text = find_named text ((codes "b", mode.B) ∷ (codes "ccrc", mode.CCrc)
+    ∷ (codes "cfec", mode.CFec) ∷ [])
 
 abbrev pub print_of : Text → Option Print
-print_of text = find_named text ((codes "none", print.None) ∷ (codes "frames", print.Frames) ∷ (codes "all", print.All) ∷ [])
+print_of text = find_named text ((codes "none", print.None) ∷ (codes "frames", print.Frames)
+    ∷ (codes "all", print.All) ∷ [])
 
 abbrev pub device_of : Text → Option Device
 device_of text = find_named text ((codes "tx", device.Tx) ∷ (codes "rx", device.Rx) ∷ [])
 
 -- the kinds of both versions
 abbrev pub kinds_1 : List (Text × Kind)
-kinds_1 = (codes "jesd", kind.Jesd) ∷ (codes "link", kind.Link) ∷ (codes "timing", kind.Timing) ∷ (codes "run", kind.Run)
-    ∷ (codes "frame", kind.Frame) ∷ (codes "octets", kind.Octets) ∷ (codes "ramp", kind.Ramp) ∷ (codes "delay", kind.Delay)
-    ∷ (codes "reset", kind.Reset) ∷ (codes "dead", kind.Dead) ∷ (codes "jitter", kind.Jitter) ∷ (codes "flip", kind.Flip) ∷ []
+kinds_1 = (codes "jesd", kind.Jesd) ∷ (codes "link", kind.Link) ∷ (codes "timing", kind.Timing)
+    ∷ (codes "run", kind.Run)
+    ∷ (codes "frame", kind.Frame) ∷ (codes "octets", kind.Octets) ∷ (codes "ramp", kind.Ramp)
+    ∷ (codes "delay", kind.Delay)
+    ∷ (codes "reset", kind.Reset) ∷ (codes "dead", kind.Dead) ∷ (codes "jitter", kind.Jitter)
+    ∷ (codes "flip", kind.Flip) ∷ []
 
 -- the kinds that version 2 adds
 abbrev pub kinds_2 : List (Text × Kind)
-kinds_2 = (codes "wire", kind.Wire) ∷ (codes "route", kind.Route) ∷ (codes "polarity", kind.Polarity) ∷ (codes "subclass", kind.Subclass) ∷ []
+kinds_2 = (codes "wire", kind.Wire) ∷ (codes "route", kind.Route)
+    ∷ (codes "polarity", kind.Polarity) ∷ (codes "subclass", kind.Subclass) ∷ []
 
 abbrev pub or_else : {X : Type 0} → Option X → Option X → Option X
 or_else None o = o
@@ -103,7 +114,8 @@ or_else (Some x) o = Some x
 
 -- the kind of this name, in a version of the format
 unfoldable pub kind_of : ℕ → Text → Option Kind
-kind_of version text = or_else (find_named text kinds_1) (if nat_le 2 version then find_named text kinds_2 else None)
+kind_of version text =
+    or_else (find_named text kinds_1) (if nat_le 2 version then find_named text kinds_2 else None)
 
 -- ---- the checks of each kind, and what its records say
 
@@ -136,13 +148,16 @@ is_run job.Run = true
 abbrev pub is_built : Job → Params → Bool
 is_built j p = not (is_run j) || is_b p.mode
 
--- `link`: mode, L, M, F, S, N, N', CS, HD, SCR, K, E; HD and SCR are 0 or 1, the laws hold, and the job is built
+-- `link`: mode, L, M, F, S, N, N', CS, HD, SCR, K, E; HD and SCR are 0 or 1, the laws hold, and the
+-- job is built
 abbrev pub link_checks : Job → List Text → Checks
 link_checks j fields = record {
   count = 12;
   forms = is_some (mode_of (field fields 1)) ∷ are_numbers 2 11 fields;
-  ranges = true ∷ true ∷ true ∷ true ∷ true ∷ true ∷ true ∷ true ∷ nat_le (num fields 9) 1 ∷ nat_le (num fields 10) 1 ∷ [];
-  more = option_map (fault 8) (link_law fields) ∷ unless (is_built j (params_of fields)) (fault 12 1) ∷ [];
+  ranges = true ∷ true ∷ true ∷ true ∷ true ∷ true ∷ true ∷ true ∷ nat_le (num fields 9) 1
+      ∷ nat_le (num fields 10) 1 ∷ [];
+  more = option_map (fault cause.Law) (link_law fields) ∷ unless (is_built j (params_of fields))
+      (fault cause.NotBuilt 1) ∷ [];
 }
 
 abbrev pub timing_of : List Text → Timing
@@ -168,7 +183,7 @@ timing_checks p fields = record {
   count = 9;
   forms = are_numbers 1 9 fields;
   ranges = [];
-  more = option_map (fault 8) (timing_law p fields) ∷ [];
+  more = option_map (fault cause.Law) (timing_law p fields) ∷ [];
 }
 
 abbrev pub print_or_none : List Text → Print
@@ -191,11 +206,17 @@ run_checks p fields = record {
   count = 2;
   forms = is_some (number (field fields 1)) ∷ is_some (print_of (field fields 2)) ∷ [];
   ranges = (nat_le 1 (num fields 1) && nat_le (num fields 1) 1048576) ∷ [];
-  more = unless (is_small_run p (num fields 1) (print_or_none fields)) (fault 9 1) ∷ [];
+  more = unless (is_small_run p (num fields 1) (print_or_none fields)) (fault cause.RunSize 1) ∷ [];
 }
 
 abbrev pub setup_of : Link → List Text → Setup
-setup_of k fields = record { link = k; ticks = num fields 1; print = print_or_none fields; ramp = None }
+setup_of k fields = record {
+  link = k;
+  ticks = num fields 1;
+  print = print_or_none fields;
+  ramp =
+      None;
+}
 
 -- words are below this
 abbrev pub word_limit : Params → ℕ
@@ -244,7 +265,7 @@ ramp_of fields = record { start = num fields 1; step = num fields 2 }
 
 -- with one more, n events and jitters are not too many
 abbrev pub events_fit : ℕ → Option Fault
-events_fit n = unless (nat_lt n 4096) (fault 10 0)
+events_fit n = unless (nat_lt n 4096) (fault cause.TooMany 0)
 
 -- `delay`: tick, lane, bits
 abbrev pub delay_checks : ℕ → Setup → List Text → Checks
@@ -264,7 +285,8 @@ abbrev pub dead_checks : ℕ → Setup → List Text → Checks
 dead_checks n b fields = record {
   count = 3;
   forms = are_numbers 1 3 fields;
-  ranges = nat_lt (num fields 1) b.ticks ∷ nat_lt (num fields 2) b.link.params.l ∷ nat_le (num fields 3) 1 ∷ [];
+  ranges = nat_lt (num fields 1) b.ticks ∷ nat_lt (num fields 2) b.link.params.l
+      ∷ nat_le (num fields 3) 1 ∷ [];
   more = events_fit n ∷ [];
 }
 
@@ -293,14 +315,22 @@ signed_or_0 text = unwrap_or (signed text) (pos 0)
 abbrev pub jitter_checks : ℕ → List Text → Checks
 jitter_checks n fields = record {
   count = 3;
-  forms = is_some (device_of (field fields 1)) ∷ is_some (number (field fields 2)) ∷ is_some (signed (field fields 3)) ∷ [];
+  forms = is_some (device_of (field fields 1)) ∷ is_some (number (field fields 2))
+      ∷ is_some (signed (field fields 3)) ∷ [];
   ranges = true ∷ nat_le (num fields 2) 1048576
-      ∷ (int_le (neg_ℤ (pos 32)) (signed_or_0 (field fields 3)) && int_le (signed_or_0 (field fields 3)) (pos 32)) ∷ [];
+      ∷ (int_le (neg_ℤ (pos 32)) (signed_or_0 (field fields 3))
+      && int_le (signed_or_0 (field fields 3)) (pos 32)) ∷ [];
   more = events_fit n ∷ [];
 }
 
 abbrev pub jitter_of : List Text → Jitter
-jitter_of fields = record { device = device_or_tx (field fields 1); edge = num fields 2; sixteenths = signed_or_0 (field fields 3) }
+jitter_of fields =
+    record {
+      device = device_or_tx (field fields 1);
+      edge = num fields 2;
+      sixteenths =
+          signed_or_0 (field fields 3);
+    }
 
 -- the counts of flips together
 abbrev pub flipped : List Flip → ℕ
@@ -318,7 +348,7 @@ flip_checks n b fields = record {
   forms = are_numbers 1 3 fields;
   ranges = nat_lt (num fields 1) b.link.params.l ∷ nat_lt (num fields 2) (run_bits b)
       ∷ (nat_le 1 (num fields 3) && nat_le (num fields 2 + num fields 3) (run_bits b)) ∷ [];
-  more = unless (nat_le (n + num fields 3) 65536) (fault 10 0) ∷ [];
+  more = unless (nat_le (n + num fields 3) 65536) (fault cause.TooMany 0) ∷ [];
 }
 
 abbrev pub flip_of : List Text → Flip
@@ -326,9 +356,9 @@ flip_of fields = record { lane = num fields 1; first = num fields 2; count = num
 
 -- ---- one record
 
--- what the records so far say: the version of the format (0 before the first record), the place in the order of records with
--- what is fixed there, the words of all frames, the octets of all records `octets`, and what the records of each kind for a run
--- say, in their order
+-- what the records so far say: the version of the format (0 before the first record), the place in
+-- the order of records with what is fixed there, the words of all frames, the octets of all records
+-- `octets`, and what the records of each kind for a run say, in their order
 pub record Seen : Type 0 where
   pub version : ℕ
   pub stage : Stage
@@ -339,7 +369,16 @@ pub record Seen : Type 0 where
   pub flips : List Flip
 
 abbrev pub nothing : Seen
-nothing = record { version = 0; stage = stage.Version; words = []; octets = []; events = []; jitters = []; flips = [] }
+nothing = record {
+  version = 0;
+  stage = stage.Version;
+  words = [];
+  octets = [];
+  events =
+      [];
+  jitters = [];
+  flips = [];
+}
 
 -- events and jitters count together
 abbrev pub events_so_far : Seen → ℕ
@@ -351,7 +390,7 @@ add fields checks seen = or_fault (fault_of (length fields) checks) seen
 
 -- a known kind that stands where it is not allowed
 abbrev pub misplaced : Result Seen Fault
-misplaced = Err (fault 3 0)
+misplaced = Err (fault cause.Misplaced 0)
 
 -- after `link` a job takes the records of one kind
 abbrev pub after_link : Job → Params → Stage
@@ -364,21 +403,28 @@ with_event seen e = record seen { events = seen.events ++ e ∷ [] }
 
 -- a kind that is not built yet
 abbrev pub unbuilt : Result Seen Fault
-unbuilt = Err (fault 12 0)
+unbuilt = Err (fault cause.NotBuilt 0)
 
 -- a record after `run`; a ramp stands at most once, and not together with frames
 abbrev pub in_body : Seen → List Text → Setup → Kind → Result Seen Fault
 in_body seen fields b kind.Frame = if is_none b.ramp
-    then add fields (frame_checks b.link.params fields) (record seen { words = seen.words ++ words_of fields })
+    then add fields (frame_checks b.link.params fields)
+    (record seen { words = seen.words ++ words_of fields })
     else misplaced
 in_body seen fields b kind.Ramp = if is_none b.ramp && (length seen.words == 0)
-    then add fields (ramp_checks b.link.params fields) (record seen { stage = stage.Body (record b { ramp = Some (ramp_of fields) }) })
+    then add fields (ramp_checks b.link.params fields)
+    (record seen { stage = stage.Body (record b { ramp = Some (ramp_of fields) }) })
     else misplaced
-in_body seen fields b kind.Delay = add fields (delay_checks (events_so_far seen) b fields) (with_event seen (delay_of fields))
-in_body seen fields b kind.Reset = add fields (reset_checks (events_so_far seen) b fields) (with_event seen (reset_of fields))
-in_body seen fields b kind.Dead = add fields (dead_checks (events_so_far seen) b fields) (with_event seen (dead_of fields))
-in_body seen fields b kind.Jitter = add fields (jitter_checks (events_so_far seen) fields) (record seen { jitters = seen.jitters ++ jitter_of fields ∷ [] })
-in_body seen fields b kind.Flip = add fields (flip_checks (flipped seen.flips) b fields) (record seen { flips = seen.flips ++ flip_of fields ∷ [] })
+in_body seen fields b kind.Delay = add fields (delay_checks (events_so_far seen) b fields)
+    (with_event seen (delay_of fields))
+in_body seen fields b kind.Reset = add fields (reset_checks (events_so_far seen) b fields)
+    (with_event seen (reset_of fields))
+in_body seen fields b kind.Dead = add fields (dead_checks (events_so_far seen) b fields)
+    (with_event seen (dead_of fields))
+in_body seen fields b kind.Jitter = add fields (jitter_checks (events_so_far seen) fields)
+    (record seen { jitters = seen.jitters ++ jitter_of fields ∷ [] })
+in_body seen fields b kind.Flip = add fields (flip_checks (flipped seen.flips) b fields)
+    (record seen { flips = seen.flips ++ flip_of fields ∷ [] })
 in_body seen fields b kind.Wire = unbuilt
 in_body seen fields b kind.Route = unbuilt
 in_body seen fields b kind.Polarity = unbuilt
@@ -387,29 +433,35 @@ in_body seen fields b k = misplaced
 
 -- a record of a known kind, at a place in the order
 abbrev pub of_kind : Seen → List Text → Stage → Kind → Result Seen Fault
-of_kind seen fields (stage.Link j) kind.Link = add fields (link_checks j fields) (record seen { stage = after_link j (params_of fields) })
-of_kind seen fields (stage.Frames p) kind.Frame = add fields (frame_checks p fields) (record seen { words = seen.words ++ words_of fields })
-of_kind seen fields (stage.Octets p) kind.Octets = add fields (octets_checks p fields) (record seen { octets = seen.octets ++ all_octets (drop 1 fields) })
+of_kind seen fields (stage.Link j) kind.Link =
+    add fields (link_checks j fields) (record seen { stage = after_link j (params_of fields) })
+of_kind seen fields (stage.Frames p) kind.Frame =
+    add fields (frame_checks p fields) (record seen { words = seen.words ++ words_of fields })
+of_kind seen fields (stage.Octets p) kind.Octets =
+    add fields (octets_checks p fields)
+    (record seen { octets = seen.octets ++ all_octets (drop 1 fields) })
 of_kind seen fields (stage.Timing p) kind.Timing = add fields (timing_checks p fields)
     (record seen { stage = stage.Run (record { params = p; timing = timing_of fields }) })
-of_kind seen fields (stage.Run k) kind.Run = add fields (run_checks k.params fields) (record seen { stage = stage.Body (setup_of k fields) })
+of_kind seen fields (stage.Run k) kind.Run = add fields (run_checks k.params fields)
+    (record seen { stage = stage.Body (setup_of k fields) })
 of_kind seen fields (stage.Body b) k = in_body seen fields b k
 of_kind seen fields s k = misplaced
 
 abbrev pub of_known : Seen → List Text → Option Kind → Result Seen Fault
-of_known seen fields None = Err (fault 4 0)
+of_known seen fields None = Err (fault cause.UnknownKind 0)
 of_known seen fields (Some k) = of_kind seen fields seen.stage k
 
 -- the version of this name
 abbrev pub version_of : Text → Option ℕ
-version_of text = if bytes_eq text (codes "1") then Some 1 else if bytes_eq text (codes "2") then Some 2 else None
+version_of text = if bytes_eq text (codes "1") then Some 1 else if bytes_eq text
+    (codes "2") then Some 2 else None
 
 -- the first record names version 1 or version 2
 abbrev pub version_fault : List Text → Option Fault
 version_fault fields = first (
-    unless (bytes_eq (field fields 0) (codes "jesd")) (fault 2 0)
-    ∷ unless (length fields == 2) (fault 5 (length fields))
-    ∷ unless (is_some (version_of (field fields 1))) (fault 2 1)
+    unless (bytes_eq (field fields 0) (codes "jesd")) (fault cause.Version 0)
+    ∷ unless (length fields == 2) (fault cause.FieldCount (length fields))
+    ∷ unless (is_some (version_of (field fields 1))) (fault cause.Version 1)
     ∷ [])
 
 abbrev pub version_read : Job → Seen → List Text → Result Seen Fault
@@ -445,11 +497,12 @@ is_whole s = false
 
 -- the end of the records, after n of them
 abbrev pub ended : ℕ → Seen → Result Seen Refusal
-ended n seen = if is_start seen.stage then Err (bad_at 0 1 0) else if is_whole seen.stage then Ok seen else Err (bad_at (n + 1) 11 0)
+ended n seen = if is_start seen.stage then Err (bad_at 0 (cause_number cause.NoRecord) 0) else
+    if is_whole seen.stage then Ok seen else Err (bad_at (n + 1) (cause_number cause.Missing) 0)
 
 -- what n records said, then these records: the first fault, or what all of them say
 unfoldable pub over : Job → ℕ → Result Seen Fault → List (List Text) → Result Seen Refusal
-over j n (Err f) rows = Err (bad_at n f.cause f.at)
+over j n (Err f) rows = Err (bad_at n (cause_number f.cause) f.at)
 over j n (Ok seen) [] = ended n seen
 over j n (Ok seen) (fields ∷ rows) = over j (n + 1) (step j seen fields) rows
 

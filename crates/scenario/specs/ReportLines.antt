@@ -37,24 +37,30 @@ mark_name mark.Bad = codes "bad"
 
 -- the fields of an alarm behind its tick
 abbrev pub alarm_fields : Alarm → List (List ℕ)
-alarm_fields (alarm.LaneWindow lane offset) = codes "lane_window" ∷ decimal lane ∷ decimal offset ∷ []
+alarm_fields (alarm.LaneWindow lane offset) = codes "lane_window" ∷ decimal lane ∷ decimal offset
+    ∷ []
 alarm_fields (alarm.LaneMissing lane) = codes "lane_missing" ∷ decimal lane ∷ []
 alarm_fields (alarm.LaneLost lane) = codes "lane_lost" ∷ decimal lane ∷ []
 alarm_fields (alarm.NoLock lane) = codes "no_lock" ∷ decimal lane ∷ []
 alarm_fields (alarm.IlasFault lane place) = codes "ilas_fault" ∷ decimal lane ∷ decimal place ∷ []
-alarm_fields (alarm.ConfigMismatch lane octet) = codes "config_mismatch" ∷ decimal lane ∷ decimal octet ∷ []
+alarm_fields (alarm.ConfigMismatch lane octet) = codes "config_mismatch" ∷ decimal lane
+    ∷ decimal octet ∷ []
 alarm_fields (alarm.SysrefPhase d off) = codes "sysref_phase" ∷ device_name d ∷ decimal off ∷ []
 alarm_fields alarm.StartTimeout = codes "start_timeout" ∷ []
 
 -- the line of a row, with the words of an enter or a frame row
 unfoldable pub line_of : Link → Row → List ℕ → List ℕ
-line_of k row.Link words = line (codes "link") (decimal (period k.params) ∷ decimal (lat_ticks k.params k.timing)
-    ∷ decimal (latency k.params k.timing) ∷ decimal (depth k.params k.timing) ∷ decimal (bound k.params k.timing) ∷ [])
+line_of k row.Link words =
+    line (codes "link") (decimal (period k.params) ∷ decimal (lat_ticks k.params k.timing)
+    ∷ decimal (latency k.params k.timing) ∷ decimal (depth k.params k.timing)
+    ∷ decimal (bound k.params k.timing) ∷ [])
 line_of k (row.Hunt t) words = line (codes "hunt") (decimal t ∷ [])
 line_of k (row.Arm t) words = line (codes "arm") (decimal t ∷ [])
 line_of k (row.Release t) words = line (codes "release") (decimal t ∷ [])
 line_of k (row.Alarm t a) words = line (codes "alarm") (decimal t ∷ alarm_fields a)
 line_of k (row.Enter o) words = line (codes "enter") (decimal o ∷ word_fields k.params words)
-line_of k (row.Frame o m) words = line (codes "frame") (decimal o ∷ mark_name m ∷ word_fields k.params words)
-line_of k (row.End n) words = line (codes "end") (decimal n.ticks ∷ decimal n.entered ∷ decimal n.delivered ∷ decimal n.ok
+line_of k (row.Frame o m) words =
+    line (codes "frame") (decimal o ∷ mark_name m ∷ word_fields k.params words)
+line_of k (row.End n) words =
+    line (codes "end") (decimal n.ticks ∷ decimal n.entered ∷ decimal n.delivered ∷ decimal n.ok
     ∷ decimal n.fixed ∷ decimal n.bad ∷ decimal n.alarms ∷ decimal n.fullest ∷ [])

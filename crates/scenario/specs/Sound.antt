@@ -35,7 +35,8 @@ pub record AreTicks (p : Params) (ticks : ℕ) (how : Print) : Type 0 where
   pub words : copies how * (ticks * octets_per_tick p / p.f) * (p.m * p.s) ≤ 2097152
 
 -- events, jitters and flips of a run of so many ticks
-pub record AreEvents (p : Params) (ticks : ℕ) (events : List Event) (jitters : List Jitter) (flips : List Flip) : Type 0 where
+pub record AreEvents (p : Params) (ticks : ℕ) (events : List Event) (jitters : List Jitter)
+    (flips : List Flip) : Type 0 where
   pub events_fit : All (λ e. IsTrue (event_fits p ticks e)) events
   pub jitters_fit : All (λ j. IsTrue (jitter_fits j)) jitters
   pub flips_fit : All (λ f. IsTrue (flip_fits p ticks f)) flips
@@ -50,7 +51,8 @@ HasNone seen = (seen.events ≡ []) × (seen.jitters ≡ []) × (seen.flips ≡ 
 abbrev pub AreSound : Stage → Seen → Type 0
 AreSound (stage.Frames p) seen = AreFrames p seen.words × (seen.octets ≡ []) × HasNone seen
 AreSound (stage.Octets p) seen = (seen.words ≡ []) × AreOctets p seen.octets × HasNone seen
-AreSound (stage.Body b) seen = IsInput b.link.params b.ramp seen.words × (seen.octets ≡ []) × AreTicks b.link.params b.ticks b.print
+AreSound (stage.Body b) seen = IsInput b.link.params b.ramp seen.words × (seen.octets ≡ [])
+    × AreTicks b.link.params b.ticks b.print
     × AreEvents b.link.params b.ticks seen.events seen.jitters seen.flips
 AreSound s seen = (seen.words ≡ []) × (seen.octets ≡ []) × HasNone seen
 

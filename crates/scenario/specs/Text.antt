@@ -37,7 +37,8 @@ has_length low high text = nat_le low (length text) && nat_le (length text) high
 
 -- the number that digits write after those of n, if all are digits
 abbrev pub value_after : ℕ → ℕ → Text → Option ℕ
-value_after radix n text = if list_all (λ c. is_digit c radix) text then Some (digits_value_after radix n text) else None
+value_after radix n text = if list_all (λ c. is_digit c radix) text then Some
+    (digits_value_after radix n text) else None
 
 -- the number, if it is not above m
 abbrev pub at_most : ℕ → Option ℕ → Option ℕ
@@ -55,7 +56,8 @@ word text = if has_length 1 8 text then value_after 16 0 text else None
 -- a number with at most one minus before its digits
 abbrev pub signed : Text → Option ℤ
 signed [] = None
-signed (c ∷ rest) = if c == 45 then option_map (λ n. neg_ℤ (pos n)) (number rest) else option_map pos (number (c ∷ rest))
+signed (c ∷ rest) = if c == 45 then option_map (λ n. neg_ℤ (pos n)) (number rest) else
+    option_map pos (number (c ∷ rest))
 
 -- a hexadecimal digit of either case
 abbrev pub is_hex : ℕ → Bool

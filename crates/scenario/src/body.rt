@@ -6,8 +6,9 @@ ghost use Rattle.scenario.specs.declared.kind.Kind.TheVariants as kind;
 ghost use Rattle.scenario.specs.Reads.{texts_of, of_kind, events_so_far};
 ghost use Rattle.scenario.specs.Answer.{seen_of, StepsTo};
 
+use crate::cause::Cause;
 use crate::event::{read_dead, read_delay, read_reset};
-use crate::fault::{Fault, RecordFault};
+use crate::fault::RecordFault;
 use crate::flip::read_flip;
 use crate::jitter::read_jitter;
 use crate::ramp::read_ramp;
@@ -48,7 +49,8 @@ impl Reading {
     /// A record `ramp`.
     pub fn ramp(&mut self, row: &ByteRecord) -> Result<(), RecordFault>
         requires { length (texts_of row.now) < 2 ^ 32 }
-        ensures { StepsTo (of_kind (seen_of self.old) (texts_of row.now) self.old.stage kind.Ramp) (seen_of self.new) result }
+        ensures { StepsTo (of_kind (seen_of self.old) (texts_of row.now) self.old.stage kind.Ramp)
+            (seen_of self.new) result }
     {
         let Stage::Body(setup) = &self.stage else {
             return misplaced();
@@ -68,7 +70,8 @@ impl Reading {
     /// A record `delay`.
     pub fn delay(&mut self, row: &ByteRecord) -> Result<(), RecordFault>
         requires { length (texts_of row.now) < 2 ^ 32 }
-        ensures { StepsTo (of_kind (seen_of self.old) (texts_of row.now) self.old.stage kind.Delay) (seen_of self.new) result }
+        ensures { StepsTo (of_kind (seen_of self.old) (texts_of row.now) self.old.stage kind.Delay)
+            (seen_of self.new) result }
     {
         let events = self.events_count();
         let Stage::Body(setup) = &self.stage else {
@@ -83,7 +86,8 @@ impl Reading {
     /// A record `reset`.
     pub fn reset(&mut self, row: &ByteRecord) -> Result<(), RecordFault>
         requires { length (texts_of row.now) < 2 ^ 32 }
-        ensures { StepsTo (of_kind (seen_of self.old) (texts_of row.now) self.old.stage kind.Reset) (seen_of self.new) result }
+        ensures { StepsTo (of_kind (seen_of self.old) (texts_of row.now) self.old.stage kind.Reset)
+            (seen_of self.new) result }
     {
         let events = self.events_count();
         let Stage::Body(setup) = &self.stage else {
@@ -98,7 +102,8 @@ impl Reading {
     /// A record `dead`.
     pub fn dead(&mut self, row: &ByteRecord) -> Result<(), RecordFault>
         requires { length (texts_of row.now) < 2 ^ 32 }
-        ensures { StepsTo (of_kind (seen_of self.old) (texts_of row.now) self.old.stage kind.Dead) (seen_of self.new) result }
+        ensures { StepsTo (of_kind (seen_of self.old) (texts_of row.now) self.old.stage kind.Dead)
+            (seen_of self.new) result }
     {
         let events = self.events_count();
         let Stage::Body(setup) = &self.stage else {
@@ -113,7 +118,8 @@ impl Reading {
     /// A record `jitter`.
     pub fn jitter(&mut self, row: &ByteRecord) -> Result<(), RecordFault>
         requires { length (texts_of row.now) < 2 ^ 32 }
-        ensures { StepsTo (of_kind (seen_of self.old) (texts_of row.now) self.old.stage kind.Jitter) (seen_of self.new) result }
+        ensures { StepsTo (of_kind (seen_of self.old) (texts_of row.now) self.old.stage kind.Jitter)
+            (seen_of self.new) result }
     {
         let events = self.events_count();
         let Stage::Body(_) = &self.stage else {
@@ -128,7 +134,8 @@ impl Reading {
     /// A record `flip`.
     pub fn flip(&mut self, row: &ByteRecord) -> Result<(), RecordFault>
         requires { length (texts_of row.now) < 2 ^ 32 }
-        ensures { StepsTo (of_kind (seen_of self.old) (texts_of row.now) self.old.stage kind.Flip) (seen_of self.new) result }
+        ensures { StepsTo (of_kind (seen_of self.old) (texts_of row.now) self.old.stage kind.Flip)
+            (seen_of self.new) result }
     {
         let Stage::Body(setup) = &self.stage else {
             return misplaced();
@@ -145,14 +152,22 @@ impl Reading {
 
     /// A record of a kind of version 2; none of them is built yet.
     pub fn newer(&self) -> Result<(), RecordFault>
-        ensures wire { (fields : List Text) → StepsTo (of_kind (seen_of self.now) fields self.now.stage kind.Wire) (seen_of self.now) result }
-        ensures route { (fields : List Text) → StepsTo (of_kind (seen_of self.now) fields self.now.stage kind.Route) (seen_of self.now) result }
-        ensures polarity { (fields : List Text) → StepsTo (of_kind (seen_of self.now) fields self.now.stage kind.Polarity) (seen_of self.now) result }
-        ensures subclass { (fields : List Text) → StepsTo (of_kind (seen_of self.now) fields self.now.stage kind.Subclass) (seen_of self.now) result }
+        ensures wire { (fields : List Text)
+            → StepsTo (of_kind (seen_of self.now) fields self.now.stage kind.Wire)
+            (seen_of self.now) result }
+        ensures route { (fields : List Text)
+            → StepsTo (of_kind (seen_of self.now) fields self.now.stage kind.Route)
+            (seen_of self.now) result }
+        ensures polarity { (fields : List Text)
+            → StepsTo (of_kind (seen_of self.now) fields self.now.stage kind.Polarity)
+            (seen_of self.now) result }
+        ensures subclass { (fields : List Text)
+            → StepsTo (of_kind (seen_of self.now) fields self.now.stage kind.Subclass)
+            (seen_of self.now) result }
     {
         let Stage::Body(_) = &self.stage else {
             return misplaced();
         };
-        Err(RecordFault::Bad(Fault { cause: 12, at: 0 }))
+        Err(RecordFault::Bad(Cause::NotBuilt.at(0)))
     }
 }

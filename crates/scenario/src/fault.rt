@@ -1,9 +1,10 @@
 //! What is wrong with a scenario.
+use crate::cause::Cause;
 
 /// What is wrong with a record: the cause, and the field, the number of fields or the law.
 #[derive(Clone, Copy, Debug, PartialEq, Eq)]
 pub struct Fault {
-    pub cause: u8,
+    pub cause: Cause,
     pub at: u32,
 }
 

@@ -8,6 +8,7 @@ ghost use Rattle.scenario.specs.Sound.{IsSound};
 ghost use Rattle.scenario.specs.Plans.{in_order, source_in, source_of};
 ghost use Rattle.scenario.specs.Answer.{Answers, Holds, seen_of};
 
+use crate::cause::Cause;
 use crate::fault::ScenarioFault;
 use crate::input::Input;
 use crate::plan::{Event, Print};
@@ -38,7 +39,8 @@ fn input_of(ramp: Option<Ramp>, words: Vec<u32>) -> Input
 
 /// Puts events in the order of ticks; those of one tick keep their order.
 fn sort_events(events: &mut Vec<Event>) -> Result<(), AllocError>
-    ensures order { OnOk result ((ticks : ℕ) → All (λ e. e.tick < ticks) events.new.items → in_order ticks events.old.items ≡ events.new.items) }
+    ensures order { OnOk result ((ticks : ℕ) → All (λ e. e.tick < ticks) events.new.items
+        → in_order ticks events.old.items ≡ events.new.items) }
     ensures same { IsPermutation events.old.items events.new.items }
     ensures sorted { OnOk result (IsNonDecreasingBy (λ (e : EventValue). e.tick) events.new.items) }
 {
@@ -120,12 +122,12 @@ impl Reading {
             }
             Stage::Version => Err(ScenarioFault::Bad {
                 row: 0,
-                cause: 1,
+                cause: Cause::NoRecord.number(),
                 at: 0,
             }),
             _ => Err(ScenarioFault::Bad {
                 row: rows + 1,
-                cause: 11,
+                cause: Cause::Missing.number(),
                 at: 0,
             }),
         }

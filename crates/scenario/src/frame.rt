@@ -1,11 +1,13 @@
 //! The records `frame` and `octets`.
 ghost use Rattle.std.specs.Prelude.{◌≡◌, ◌≤◌, ◌<◌, ◌^◌, ◌++◌, ◌+◌, ◌*◌, ◌-◌, length, map, nat_lt, drop, option_map};
 ghost use Rattle.std.specs.List.{list_all};
+ghost use Rattle.scenario.specs.declared.cause.Cause.TheVariants as cause;
 ghost use Rattle.scenario.specs.Text.{is_hex};
 ghost use Rattle.scenario.specs.Check.{KeptOr, fault, fault_of, lowest};
 ghost use Rattle.scenario.specs.Reads.{texts_of, is_word, frame_checks, octets_checks, words_of, all_octets, is_octets, field, word_limit};
 
-use crate::fault::{Fault, RecordFault};
+use crate::cause::Cause;
+use crate::fault::RecordFault;
 use crate::row::{count, field_at};
 use crate::text::{is_hex_digit, push_octets, read_word};
 use csv::ByteRecord;
@@ -14,11 +16,13 @@ use link_params::Shape;
 /// Adds the words of the fields after the first.
 fn push_words(row: &ByteRecord, fields: u32, words: &mut Vec<u32>) -> Result<(), RecordFault>
     requires { fields ≡ length (texts_of row.now) }
-    ensures { KeptOr (option_map (fault 6) (lowest 1 (map is_word (drop 1 (texts_of row.now))))) words.new.items (words.old.items ++ words_of (texts_of row.now)) result }
+    ensures { KeptOr
+        (option_map (fault cause.Form) (lowest 1 (map is_word (drop 1 (texts_of row.now)))))
+        words.new.items (words.old.items ++ words_of (texts_of row.now)) result }
 {
     for at in 1..fields {
         let Some(word) = read_word(field_at(row, at)) else {
-            return Err(RecordFault::Bad(Fault { cause: 6, at }));
+            return Err(RecordFault::Bad(Cause::Form.at(at)));
         };
         if words.push(word).is_err() {
             return Err(RecordFault::NoMemory);
@@ -52,20 +56,18 @@ pub fn limit_of(shape: &Shape) -> u64
 /// Adds the words of a record `frame`.
 pub fn read_frame(row: &ByteRecord, shape: &Shape, words: &mut Vec<u32>) -> Result<(), RecordFault>
     requires { length (texts_of row.now) < 2 ^ 32 }
-    ensures { KeptOr (fault_of (length (texts_of row.now)) (frame_checks shape.now (texts_of row.now))) words.new.items (words.old.items ++ words_of (texts_of row.now)) result }
+    ensures { KeptOr (fault_of (length (texts_of row.now)) (frame_checks shape.now (texts_of row.now)))
+        words.new.items (words.old.items ++ words_of (texts_of row.now)) result }
 {
     let fields = count(row);
     if fields != shape.frame_words() + 1 {
-        return Err(RecordFault::Bad(Fault {
-            cause: 5,
-            at: fields,
-        }));
+        return Err(RecordFault::Bad(Cause::FieldCount.at(fields)));
     }
     let before = words.as_slice().len();
     push_words(row, fields, words)?;
     match first_above(&words[before..], limit_of(shape)) {
         None => Ok(()),
-        Some(at) => Err(RecordFault::Bad(Fault { cause: 7, at })),
+        Some(at) => Err(RecordFault::Bad(Cause::Range.at(at))),
     }
 }
 
@@ -91,19 +93,17 @@ fn is_octets_text(text: &[u8], octets: u32) -> bool
 /// Adds the octets of a record `octets`.
 pub fn read_octets(row: &ByteRecord, shape: &Shape, octets: &mut Vec<u8>) -> Result<(), RecordFault>
     requires { length (texts_of row.now) < 2 ^ 32 }
-    ensures { KeptOr (fault_of (length (texts_of row.now)) (octets_checks shape.now (texts_of row.now))) octets.new.items (octets.old.items ++ all_octets (drop 1 (texts_of row.now))) result }
+    ensures { KeptOr (fault_of (length (texts_of row.now)) (octets_checks shape.now (texts_of row.now)))
+        octets.new.items (octets.old.items ++ all_octets (drop 1 (texts_of row.now))) result }
 {
     let fields = count(row);
     if fields != shape.lanes() + 1 {
-        return Err(RecordFault::Bad(Fault {
-            cause: 5,
-            at: fields,
-        }));
+        return Err(RecordFault::Bad(Cause::FieldCount.at(fields)));
     }
     for at in 1..fields {
         let text = field_at(row, at);
         if !is_octets_text(text, shape.frame_octets()) {
-            return Err(RecordFault::Bad(Fault { cause: 6, at }));
+            return Err(RecordFault::Bad(Cause::Form.at(at)));
         }
         if push_octets(text, octets).is_err() {
             return Err(RecordFault::NoMemory);

@@ -8,13 +8,16 @@
 //! }
 //! ```
 //!
-//! An input is CSV with no header row. The first record is `jesd,1` or `jesd,2`, the second is `link`. Then come records
-//! `frame` (for `map`) or `octets` (for `unmap`); for `run` one record `timing`, one record `run`, and the others in any
-//! order. Spaces and tabs round a field are no part of it. The first record that is wrong is refused with its number, the
-//! cause and the place in it.
+//! An input is CSV with no header row. The first record is `jesd,1` or `jesd,2`, the second is
+//! `link`. Then come records `frame` (for `map`) or `octets` (for `unmap`); for `run` one record
+//! `timing`, one record `run`, and the others in any order. Spaces and tabs round a field are no
+//! part of it. The first record that is wrong is refused with its number, the cause and the place
+//! in it.
 #![tactic(auto)]
 
 mod body;
+mod cause;
+mod digits;
 mod event;
 mod fault;
 mod finish;
@@ -29,6 +32,7 @@ mod plan;
 mod ramp;
 mod read;
 mod reading;
+mod reading_laws;
 mod report_row;
 mod row;
 mod run;
@@ -43,12 +47,14 @@ mod tests_text;
 mod text;
 mod timing;
 
+pub use digits::write_digits;
 pub use fault::ScenarioFault;
 pub use input::Input;
 pub use kind::Job;
 pub use line_text::LineText;
 pub use plan::{Event, Flip, Jitter, Print, What};
 pub use read::read_scenario;
+pub use reading_laws::readings;
 pub use report_row::{Row, Totals};
 pub use scenario_type::Scenario;
 pub use source::source_frame;

@@ -2,9 +2,10 @@
 ghost use Rattle.std.specs.Prelude.{◌≡◌, ◌<◌, ◌≤◌, ◌+◌, ◌*◌, ◌++◌, [], ◌∷◌, length, Some, IfOk, codes, decimal, map};
 ghost use Rattle.std.specs.List.{flat_map};
 ghost use Rattle.link_params.specs.Links.{Link as LinkValue};
-ghost use Rattle.scenario.specs.Digits.{hex_digit, hex_digits, word_digits};
+ghost use Rattle.scenario.specs.Digits.{hex_digits, word_digits};
 ghost use Rattle.scenario.specs.ReportLines.{alarm_fields, fields_text, line, line_of, mark_name, word_fields};
 
+use crate::digits::write_digits;
 use crate::report_row::{Row, Totals};
 use crate::scenario_type::Scenario;
 use itoa::Buffer;
@@ -13,7 +14,8 @@ use link_params::{Alarm, Device, Link, Mark, Shape};
 use std::alloc::Global;
 use std::marker::Model;
 
-/// The text of one line, in room that was taken when it was opened. Contracts see it as its bytes and that room.
+/// The text of one line, in room that was taken when it was opened. Contracts see it as its bytes
+/// and that room.
 #[derive(Drop)]
 pub struct LineText {
     bytes: Vec<u8>,
@@ -28,17 +30,6 @@ impl Model for LineText {
     ghost view = { λ t. record { bytes = t.bytes.items; room = vec_capacity t.bytes } };
 }
 
-fn digit_of(value: u32) -> u8
-    requires { value ≤ 15 }
-    ensures { result ≡ hex_digit value }
-{
-    if value < 10 {
-        b'0' + value as u8
-    } else {
-        b'a' + (value - 10) as u8
-    }
-}
-
 impl LineText {
     /// No text yet, and room for so many bytes; `NoMemory` where there is none.
     pub fn open(alloc: Global, room: usize) -> Result<LineText, NoMemory>
@@ -51,11 +42,12 @@ impl LineText {
         }
     }
 
-    /// Puts the line of a row in the place of the text: `words` are those of an `Enter` or a `Frame` row, and none for another one.
-    /// Without a link the text is empty.
+    /// Puts the line of a row in the place of the text: `words` are those of an `Enter` or a
+    /// `Frame` row, and none for another one. Without a link the text is empty.
     pub fn line(&mut self, row: &Row, words: &[u32], s: &Scenario)
         requires room { 128 + 9 * length words.now ≤ self.old.room }
-        ensures line { (k : LinkValue) → s.now.link ≡ Some k → self.new.bytes ≡ line_of k row.now words.now }
+        ensures line { (k : LinkValue) → s.now.link ≡ Some k
+            → self.new.bytes ≡ line_of k row.now words.now }
         ensures room { self.old.room ≤ self.new.room }
     {
         match &s.link {
@@ -195,7 +187,8 @@ impl LineText {
 
     fn sysref_phase(&mut self, device: Device, off: u32)
         requires { length self.old.bytes + 38 ≤ self.old.room }
-        ensures bytes { self.new.bytes ≡ self.old.bytes ++ fields_text (alarm_fields (Alarm.SysrefPhase device off)) }
+        ensures bytes { self.new.bytes ≡ self.old.bytes
+            ++ fields_text (alarm_fields (Alarm.SysrefPhase device off)) }
         ensures short { length self.new.bytes ≤ length self.old.bytes + 38 }
         ensures room { self.old.room ≤ self.new.room }
     {
@@ -222,7 +215,8 @@ impl LineText {
     // Words, each behind a comma.
     fn words(&mut self, words: &[u32], shape: &Shape)
         requires { length self.old.bytes + 9 * length words.now ≤ self.old.room }
-        ensures bytes { self.new.bytes ≡ self.old.bytes ++ flat_map (λ w. 44 ∷ hex_digits (word_digits shape.now) w) words.now }
+        ensures bytes { self.new.bytes ≡ self.old.bytes
+            ++ flat_map (λ w. 44 ∷ hex_digits (word_digits shape.now) w) words.now }
         ensures short { length self.new.bytes ≤ length self.old.bytes + 9 * length words.now }
         ensures room { self.old.room ≤ self.new.room }
     {
@@ -241,16 +235,20 @@ impl LineText {
         ensures short { length self.new.bytes ≤ length self.old.bytes + count }
         ensures room { self.old.room ≤ self.new.room }
     {
-        for place in (0..count).rev() {
-            self.put_byte(digit_of((word >> (4 * place)) % 16));
-        }
+        let mut digits = [0; 8];
+        let places = &mut digits[..count as usize];
+        write_digits(word, places);
+        self.put(places);
     }
 
     // A name and numbers, each behind a comma.
     fn named(&mut self, name: &[u8], values: &[u32])
-        requires { length self.old.bytes + 1 + length name.now + 11 * length values.now ≤ self.old.room }
-        ensures bytes { self.new.bytes ≡ self.old.bytes ++ fields_text (name.now ∷ map decimal values.now) }
-        ensures short { length self.new.bytes ≤ length self.old.bytes + 1 + length name.now + 11 * length values.now }
+        requires { length self.old.bytes + 1 + length name.now + 11 * length values.now
+            ≤ self.old.room }
+        ensures bytes { self.new.bytes ≡ self.old.bytes
+            ++ fields_text (name.now ∷ map decimal values.now) }
+        ensures short { length self.new.bytes ≤ length self.old.bytes + 1 + length name.now
+            + 11 * length values.now }
         ensures room { self.old.room ≤ self.new.room }
     {
         self.name(name);

@@ -5,6 +5,7 @@ ghost use Rattle.scenario.specs.declared.kind.Job.{Job as JobOf};
 ghost use Rattle.scenario.specs.Check.{ReadOr, fault_of, basic_fault};
 ghost use Rattle.scenario.specs.Reads.{texts_of, is_run, link_checks, params_of};
 
+use crate::cause::Cause;
 use crate::fault::Fault;
 use crate::kind::Job;
 use crate::row::{count, field_at, read_mode, read_numbers};
@@ -14,26 +15,25 @@ use link_params::{Mode, Params, Shape};
 /// The parameters that a record `link` names, before their laws.
 fn read_params(row: &ByteRecord) -> Result<Params, Fault>
     requires { length (texts_of row.now) < 2 ^ 32 }
-    ensures { (job : JobOf) → ReadOr (basic_fault (length (texts_of row.now)) (link_checks job (texts_of row.now))) (params_of (texts_of row.now)) result }
+    ensures { (job : JobOf)
+        → ReadOr (basic_fault (length (texts_of row.now)) (link_checks job (texts_of row.now)))
+        (params_of (texts_of row.now)) result }
 {
     let fields = count(row);
     if fields != 13 {
-        return Err(Fault {
-            cause: 5,
-            at: fields,
-        });
+        return Err(Cause::FieldCount.at(fields));
     }
     let Some(mode) = read_mode(field_at(row, 1)) else {
-        return Err(Fault { cause: 6, at: 1 });
+        return Err(Cause::Form.at(1));
     };
     let mut numbers = [0; 11];
     read_numbers(row, 2, &mut numbers)?;
     let [l, m, f, s, n, np, cs, hd, scr, k, e] = numbers;
     if hd > 1 {
-        return Err(Fault { cause: 7, at: 9 });
+        return Err(Cause::Range.at(9));
     }
     if scr > 1 {
-        return Err(Fault { cause: 7, at: 10 });
+        return Err(Cause::Range.at(10));
     }
     Ok(Params {
         mode,
@@ -64,19 +64,17 @@ fn is_built_job(job: Job, mode: Mode) -> bool
 /// The shape that a record `link` names.
 pub fn read_link(job: Job, row: &ByteRecord) -> Result<Shape, Fault>
     requires { length (texts_of row.now) < 2 ^ 32 }
-    ensures { ReadOr (fault_of (length (texts_of row.now)) (link_checks job (texts_of row.now))) (params_of (texts_of row.now)) result }
+    ensures { ReadOr (fault_of (length (texts_of row.now)) (link_checks job (texts_of row.now)))
+        (params_of (texts_of row.now)) result }
 {
     let params = read_params(row)?;
     match params.check() {
         Ok(shape) => {
             if !is_built_job(job, params.mode) {
-                return Err(Fault { cause: 12, at: 1 });
+                return Err(Cause::NotBuilt.at(1));
             }
             Ok(shape)
         }
-        Err(law) => Err(Fault {
-            cause: 8,
-            at: u32::from(law.0),
-        }),
+        Err(law) => Err(Cause::Law.at(u32::from(law.0))),
     }
 }

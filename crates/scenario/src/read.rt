@@ -32,7 +32,7 @@ pub fn read_scenario(alloc: Global, job: Job, bytes: &[u8]) -> Result<Scenario, 
             Err(RecordFault::Bad(fault)) => {
                 return Err(ScenarioFault::Bad {
                     row: number,
-                    cause: fault.cause,
+                    cause: fault.cause.number(),
                     at: fault.at,
                 });
             }

@@ -3,6 +3,7 @@ ghost use Rattle.std.specs.Prelude.{◌≡◌, ◌≤◌, ◌<◌, ◌^◌, ◌+
 ghost use Rattle.std.specs.Str.{bytes_eq};
 ghost use Rattle.scenario.specs.Reads.{texts_of, field, ReadNumbers, mode_of, print_of, device_of, find_named, kinds_1, kinds_2, kind_of, version_of};
 
+use crate::cause::Cause;
 use crate::fault::Fault;
 use crate::kind::Kind;
 use crate::plan::Print;
@@ -37,7 +38,7 @@ pub fn read_numbers(row: &ByteRecord, from: u32, numbers: &mut [u32]) -> Result<
     for slot in numbers.iter_mut() {
         match read_number(field_at(row, at)) {
             Some(n) => *slot = n,
-            None => return Err(Fault { cause: 6, at }),
+            None => return Err(Cause::Form.at(at)),
         }
         at += 1;
     }

@@ -3,6 +3,7 @@ ghost use Rattle.std.specs.Prelude.{◌≡◌, ◌≤◌, ◌<◌, ◌^◌, leng
 ghost use Rattle.scenario.specs.Check.{ReadOr, fault_of};
 ghost use Rattle.scenario.specs.Reads.{texts_of, copies, is_small_run, run_checks, setup_of};
 
+use crate::cause::Cause;
 use crate::fault::Fault;
 use crate::plan::Print;
 use crate::row::{count, field_at, read_print};
@@ -41,26 +42,25 @@ fn is_small(shape: &Shape, ticks: u32, print: Print) -> bool
 /// The ticks of a run, and what is printed of it.
 pub fn read_run(row: &ByteRecord, link: &Link) -> Result<Setup, Fault>
     requires { length (texts_of row.now) < 2 ^ 32 }
-    ensures { ReadOr (fault_of (length (texts_of row.now)) (run_checks link.now.params (texts_of row.now))) (setup_of link.now (texts_of row.now)) result }
+    ensures { ReadOr
+        (fault_of (length (texts_of row.now)) (run_checks link.now.params (texts_of row.now)))
+        (setup_of link.now (texts_of row.now)) result }
 {
     let fields = count(row);
     if fields != 3 {
-        return Err(Fault {
-            cause: 5,
-            at: fields,
-        });
+        return Err(Cause::FieldCount.at(fields));
     }
     let Some(ticks) = read_number(field_at(row, 1)) else {
-        return Err(Fault { cause: 6, at: 1 });
+        return Err(Cause::Form.at(1));
     };
     let Some(print) = read_print(field_at(row, 2)) else {
-        return Err(Fault { cause: 6, at: 2 });
+        return Err(Cause::Form.at(2));
     };
     if ticks < 1 || ticks > MOST_TICKS {
-        return Err(Fault { cause: 7, at: 1 });
+        return Err(Cause::Range.at(1));
     }
     if !is_small(&link.shape(), ticks, print) {
-        return Err(Fault { cause: 9, at: 1 });
+        return Err(Cause::RunSize.at(1));
     }
     Ok(Setup {
         link: *link,

@@ -1,15 +1,19 @@
 //! The frames that go into a run.
-ghost use Rattle.std.specs.Prelude.{◌≡◌, ◌<◌, ◌≤◌, ◌+◌, ◌*◌, ◌/◌, ◌%◌, ◌^◌, length, take, drop, map, Some};
-ghost use Rattle.scenario.specs.Plans.{Plan, numbers_from, plan_of, source_frame};
+ghost use Rattle.std.specs.Prelude.{◌≡◌, ◌<◌, ◌≤◌, ◌+◌, ◌*◌, ◌/◌, ◌%◌, ◌^◌, length, take, drop, map, Some, IsTrue};
+ghost use Rattle.scenario.specs.Limits.{has_words};
+ghost use Rattle.scenario.specs.Plans.{Plan, frame_of_source, numbers_from, plan_of, source_frame, source_in};
 
 use crate::input::Input;
 use crate::scenario_type::Scenario;
 
-/// Writes the M·S words of source frame `n`, counted from 0, of a scenario for `run`: those of the records `frame`, again and again, or of
-/// the ramp. Without frames the words stay as they are.
+/// Writes the M·S words of source frame `n`, counted from 0: those of the frames of the input,
+/// again and again, or of the ramp. `words` has M·S places, and the input is a ramp or has a frame
+/// at least, as in every scenario of a run.
 pub fn source_frame(s: &Scenario, n: u64, words: &mut [u32])
-    requires { length words.old ≡ s.now.shape.m * s.now.shape.s }
-    ensures { (plan : Plan) → plan_of s.now ≡ Some plan → words.new ≡ source_frame plan n }
+    requires size { length words.old ≡ s.now.shape.m * s.now.shape.s }
+    requires some { IsTrue (has_words s.now.input) }
+    ensures source { words.new ≡ frame_of_source s.now.shape (source_in s.now.input) n }
+    ensures plan { (plan : Plan) → plan_of s.now ≡ Some plan → words.new ≡ source_frame plan n }
 {
     let size = s.shape.frame_words();
     match &s.input {
@@ -25,7 +29,8 @@ pub fn source_frame(s: &Scenario, n: u64, words: &mut [u32])
 // Words from `first` on by `step`, modulo 2^bits.
 pub(crate) fn ramp_words(first: u64, step: u32, bits: u32, words: &mut [u32])
     requires { bits ≤ 32 }
-    ensures { words.new ≡ map (λ k. (first + step * k) % 2 ^ bits) (numbers_from 0 (length words.old)) }
+    ensures { words.new ≡ map (λ k. (first + step * k) % 2 ^ bits)
+        (numbers_from 0 (length words.old)) }
 {
     let mask = (1u64 << bits) - 1;
     let mut value = first;
@@ -38,7 +43,9 @@ pub(crate) fn ramp_words(first: u64, step: u32, bits: u32, words: &mut [u32])
 // The words of frame `n` modulo the number of frames; `words` is as long as a frame.
 pub(crate) fn repeated_frame(frames: &[u32], n: u64, words: &mut [u32])
     requires { 1 ≤ length words.old }
-    ensures { length words.old ≤ length frames.now → words.new ≡ take (length words.old) (drop (n % (length frames.now / length words.old) * length words.old) frames.now) }
+    ensures { length words.old ≤ length frames.now
+        → words.new ≡ take (length words.old)
+        (drop (n % (length frames.now / length words.old) * length words.old) frames.now) }
 {
     let size = words.len();
     let count = frames.len() / size;

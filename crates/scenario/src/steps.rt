@@ -1,11 +1,13 @@
 //! One record more.
 ghost use Rattle.std.specs.Prelude.{◌≡◌, ◌<◌, ◌^◌, unwrap_or, Err, length};
+ghost use Rattle.scenario.specs.declared.cause.Cause.TheVariants as cause;
 ghost use Rattle.scenario.specs.Check.{ReadOr, fault};
 ghost use Rattle.scenario.specs.declared.fault.RecordFault.TheVariants.{Bad};
 ghost use Rattle.scenario.specs.declared.kind.Kind.TheVariants as kind;
 ghost use Rattle.scenario.specs.Reads.{texts_of, field, nothing, step, of_kind, version_of, version_fault, after_link};
 ghost use Rattle.scenario.specs.Answer.{seen_of, StepsTo};
 
+use crate::cause::Cause;
 use crate::fault::{Fault, RecordFault};
 use crate::frame::{read_frame, read_octets};
 use crate::kind::{Job, Kind};
@@ -22,21 +24,19 @@ use std::alloc::Global;
 /// The version that the first record names.
 fn first_version(row: &ByteRecord) -> Result<u32, Fault>
     requires { length (texts_of row.now) < 2 ^ 32 }
-    ensures { ReadOr (version_fault (texts_of row.now)) (unwrap_or (version_of (field (texts_of row.now) 1)) 0) result }
+    ensures { ReadOr (version_fault (texts_of row.now))
+        (unwrap_or (version_of (field (texts_of row.now) 1)) 0) result }
 {
     if !is_named(field_at(row, 0), b"jesd") {
-        return Err(Fault { cause: 2, at: 0 });
+        return Err(Cause::Version.at(0));
     }
     let fields = count(row);
     if fields != 2 {
-        return Err(Fault {
-            cause: 5,
-            at: fields,
-        });
+        return Err(Cause::FieldCount.at(fields));
     }
     match read_version(field_at(row, 1)) {
         Some(version) => Ok(version),
-        None => Err(Fault { cause: 2, at: 1 }),
+        None => Err(Cause::Version.at(1)),
     }
 }
 
@@ -52,9 +52,9 @@ fn stage_after_link(job: Job, shape: Shape) -> Stage
 
 /// A known kind that stands where it is not allowed.
 pub fn misplaced() -> Result<(), RecordFault>
-    ensures { result ≡ Err (Bad (fault 3 0)) }
+    ensures { result ≡ Err (Bad (fault cause.Misplaced 0)) }
 {
-    Err(RecordFault::Bad(Fault { cause: 3, at: 0 }))
+    Err(RecordFault::Bad(Cause::Misplaced.at(0)))
 }
 
 impl Reading {
@@ -76,7 +76,8 @@ impl Reading {
 
     fn link(&mut self, row: &ByteRecord) -> Result<(), RecordFault>
         requires { length (texts_of row.now) < 2 ^ 32 }
-        ensures { StepsTo (of_kind (seen_of self.old) (texts_of row.now) self.old.stage kind.Link) (seen_of self.new) result }
+        ensures { StepsTo (of_kind (seen_of self.old) (texts_of row.now) self.old.stage kind.Link)
+            (seen_of self.new) result }
     {
         let Stage::Link(job) = self.stage else {
             return misplaced();
@@ -92,7 +93,8 @@ impl Reading {
 
     fn timing(&mut self, row: &ByteRecord) -> Result<(), RecordFault>
         requires { length (texts_of row.now) < 2 ^ 32 }
-        ensures { StepsTo (of_kind (seen_of self.old) (texts_of row.now) self.old.stage kind.Timing) (seen_of self.new) result }
+        ensures { StepsTo (of_kind (seen_of self.old) (texts_of row.now) self.old.stage kind.Timing)
+            (seen_of self.new) result }
     {
         let Stage::Timing(shape) = &self.stage else {
             return misplaced();
@@ -108,7 +110,8 @@ impl Reading {
 
     fn run(&mut self, row: &ByteRecord) -> Result<(), RecordFault>
         requires { length (texts_of row.now) < 2 ^ 32 }
-        ensures { StepsTo (of_kind (seen_of self.old) (texts_of row.now) self.old.stage kind.Run) (seen_of self.new) result }
+        ensures { StepsTo (of_kind (seen_of self.old) (texts_of row.now) self.old.stage kind.Run)
+            (seen_of self.new) result }
     {
         let Stage::Run(link) = &self.stage else {
             return misplaced();
@@ -124,7 +127,8 @@ impl Reading {
 
     fn frame(&mut self, row: &ByteRecord) -> Result<(), RecordFault>
         requires { length (texts_of row.now) < 2 ^ 32 }
-        ensures { StepsTo (of_kind (seen_of self.old) (texts_of row.now) self.old.stage kind.Frame) (seen_of self.new) result }
+        ensures { StepsTo (of_kind (seen_of self.old) (texts_of row.now) self.old.stage kind.Frame)
+            (seen_of self.new) result }
     {
         match &self.stage {
             Stage::Frames(shape) => read_frame(row, shape, &mut self.words),
@@ -140,7 +144,8 @@ impl Reading {
 
     fn octets(&mut self, row: &ByteRecord) -> Result<(), RecordFault>
         requires { length (texts_of row.now) < 2 ^ 32 }
-        ensures { StepsTo (of_kind (seen_of self.old) (texts_of row.now) self.old.stage kind.Octets) (seen_of self.new) result }
+        ensures { StepsTo (of_kind (seen_of self.old) (texts_of row.now) self.old.stage kind.Octets)
+            (seen_of self.new) result }
     {
         let Stage::Octets(shape) = &self.stage else {
             return misplaced();
@@ -151,7 +156,8 @@ impl Reading {
     /// A record of a known kind.
     fn known(&mut self, kind: Kind, row: &ByteRecord) -> Result<(), RecordFault>
         requires { length (texts_of row.now) < 2 ^ 32 }
-        ensures { StepsTo (of_kind (seen_of self.old) (texts_of row.now) self.old.stage kind) (seen_of self.new) result }
+        ensures { StepsTo (of_kind (seen_of self.old) (texts_of row.now) self.old.stage kind)
+            (seen_of self.new) result }
     {
         match kind {
             Kind::Jesd => misplaced(),
@@ -173,7 +179,8 @@ impl Reading {
     /// One record more.
     pub fn step(&mut self, job: Job, row: &ByteRecord) -> Result<(), RecordFault>
         requires { length (texts_of row.now) < 2 ^ 32 }
-        ensures { StepsTo (step job (seen_of self.old) (texts_of row.now)) (seen_of self.new) result }
+        ensures { StepsTo (step job (seen_of self.old) (texts_of row.now)) (seen_of self.new)
+            result }
     {
         if let Stage::Version = self.stage {
             return match first_version(row) {
@@ -187,7 +194,7 @@ impl Reading {
         }
         match read_kind(self.version, field_at(row, 0)) {
             Some(kind) => self.known(kind, row),
-            None => Err(RecordFault::Bad(Fault { cause: 4, at: 0 })),
+            None => Err(RecordFault::Bad(Cause::UnknownKind.at(0))),
         }
     }
 }

@@ -53,7 +53,8 @@ fn what_accepted_inputs_say(rt: HostRuntime) {
             &[],
             &[],
         ),
-        // a byte order mark, blanks round fields, quotes, digits of both cases, blank lines, no line break at the end
+        // a byte order mark, blanks round fields, quotes, digits of both cases, blank lines, no
+        // line break at the end
         (
             Job::Map,
             b"\xef\xbb\xbfjesd , 1\n\r\nlink,\tb,1,2 ,2,\"1\",8,8,0,0,0, 0000000017,0\rframe,a5 ,0000005A\n\nframe,Fe,\"eF \"",
@@ -303,7 +304,8 @@ fn where_bad_inputs_are_wrong(rt: HostRuntime) {
     }
 }
 
-// A run of 1,000 ticks, each of 10 bits on one lane, with a period of 64 ticks. Its words have 16 bits.
+// A run of 1,000 ticks, each of 10 bits on one lane, with a period of 64 ticks. Its words have 16
+// bits.
 const RUN: &[u8] =
     b"jesd,1\nlink,b,1,1,2,1,16,16,0,0,1,32,0\ntiming,128,2,8,120,7,30,5,20,30\nrun,1000,all\n";
 

@@ -43,7 +43,8 @@ fn link(n: u32) -> Option<Link> {
     }
 }
 
-// Whether the line of a row with these two words is this one, where the text was another one before.
+// Whether the line of a row with these two words is this one, where the text was another one
+// before.
 fn is_line(alloc: Global, link: &Link, row: &Row, line: &[u8]) -> Result<bool, NoMemory> {
     let mut text = LineText::open(alloc, 146)?;
     text.row(&Row::Hunt(1), &[], link);

@@ -4,6 +4,7 @@ ghost use Rattle.link_params.specs.declared.fields.Params.{Params};
 ghost use Rattle.scenario.specs.Check.{ReadOr, basic_fault, fault_of};
 ghost use Rattle.scenario.specs.Reads.{texts_of, timing_checks, timing_of};
 
+use crate::cause::Cause;
 use crate::fault::Fault;
 use crate::row::{count, read_numbers};
 use csv::ByteRecord;
@@ -12,14 +13,13 @@ use link_params::{Link, Shape, Timing};
 /// The timing that a record `timing` names, before its laws.
 fn read_fields(row: &ByteRecord) -> Result<Timing, Fault>
     requires { length (texts_of row.now) < 2 ^ 32 }
-    ensures { (p : Params) → ReadOr (basic_fault (length (texts_of row.now)) (timing_checks p (texts_of row.now))) (timing_of (texts_of row.now)) result }
+    ensures { (p : Params)
+        → ReadOr (basic_fault (length (texts_of row.now)) (timing_checks p (texts_of row.now)))
+        (timing_of (texts_of row.now)) result }
 {
     let fields = count(row);
     if fields != 10 {
-        return Err(Fault {
-            cause: 5,
-            at: fields,
-        });
+        return Err(Cause::FieldCount.at(fields));
     }
     let mut numbers = [0; 9];
     read_numbers(row, 1, &mut numbers)?;
@@ -50,14 +50,12 @@ fn read_fields(row: &ByteRecord) -> Result<Timing, Fault>
 /// The link of this shape with the timing that a record `timing` names.
 pub fn read_timing(row: &ByteRecord, shape: &Shape) -> Result<Link, Fault>
     requires { length (texts_of row.now) < 2 ^ 32 }
-    ensures { ReadOr (fault_of (length (texts_of row.now)) (timing_checks shape.now (texts_of row.now))) (record { params = shape.now; timing = timing_of (texts_of row.now) }) result }
+    ensures { ReadOr (fault_of (length (texts_of row.now)) (timing_checks shape.now (texts_of row.now)))
+        (record { params = shape.now; timing = timing_of (texts_of row.now) }) result }
 {
     let timing = read_fields(row)?;
     match shape.with(&timing) {
         Ok(link) => Ok(link),
-        Err(law) => Err(Fault {
-            cause: 8,
-            at: u32::from(law.0),
-        }),
+        Err(law) => Err(Cause::Law.at(u32::from(law.0))),
     }
 }

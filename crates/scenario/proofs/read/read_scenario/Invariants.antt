@@ -7,7 +7,9 @@ use Rattle.scenario.proofs.ScenarioLemmas.{Came}
 use Rattle.scenario.proofs.read.read_scenario.Given as goal
 
 abbrev pub invariant-loop-row : goal.invariant-loop-row
-invariant-loop-row l = (l.row-iterator.rdr.trim ≡ trim.None) × Ready l.row-iterator.rdr × (0 < l.row-iterator.left) × (l.row-iterator.rdr.config ≡ default_config)
+invariant-loop-row l = (l.row-iterator.rdr.trim ≡ trim.None) × Ready l.row-iterator.rdr
+    × (0 < l.row-iterator.left) × (l.row-iterator.rdr.config ≡ default_config)
     × (y : List ℕ) × (source_of (λ s. Some s.now) l.row-iterator.rdr ≡ Some y)
-    × (rows : List (List (List ℕ))) × Reached default_config st.StartRecord (strip_bom l.fn.bytes) rows l.row-iterator.rdr.state y
+    × (rows : List (List (List ℕ))) × Reached default_config st.StartRecord (strip_bom l.fn.bytes)
+    rows l.row-iterator.rdr.state y
     × (l.number ≡ length rows) × Came l.job rows l.number (seen_of l.reading)

@@ -16,13 +16,18 @@ returns-in-Ok c =
     let p = c.args.shape.now in
     let t = c.in_ok-timing.ensures p in
     let s = c.in-Ok.ensures in
-    let law : timing_law p ts ≡ None = timing_law-is p ts _ None t.1 s.1 in
-    (fault_of-none (length ts) (timing_checks p ts) t.0 (rw law refl), s.0 ∙ ap (λ x. record { params = p; timing = x }) t.1)
+    let law : timing_law p ts ≡ None = timing_law-is p ts _ None t.1 s.1 in (
+      fault_of-none (length ts) (timing_checks p ts) t.0 (rw law refl),
+      s.0
+          ∙ ap (λ x. record { params = p; timing = x }) t.1,
+    )
 
 pub returns-in-Err : goal.returns-in-Err
 returns-in-Err c =
     let ts = texts_of c.args.row.now in
     let p = c.args.shape.now in
     let t = c.in_ok-timing.ensures p in
-    let law : timing_law p ts ≡ Some c.in-Err.law.0 = timing_law-is p ts _ (Some c.in-Err.law.0) t.1 c.in-Err.ensures in
-    fault_of-more (length ts) (timing_checks p ts) _ t.0 (rw (law, c.from.ensures) refl)
+    let law : timing_law p ts ≡ Some c.in-Err.law.0 =
+    timing_law-is p ts _ (Some c.in-Err.law.0) t.1 c.in-Err.ensures in
+    fault_of-more (length ts) (timing_checks p ts) _ t.0
+    (rw (law, c.at.ensures, c.from.ensures) refl)

@@ -7,7 +7,9 @@ pub returns-in-IlasFault-clause-bytes : goal.returns-in-IlasFault-clause-bytes
 returns-in-IlasFault-clause-bytes c = rw c.in-IlasFault.is c.named-in-IlasFault.ensures.bytes
 
 pub returns-in-ConfigMismatch-clause-bytes : goal.returns-in-ConfigMismatch-clause-bytes
-returns-in-ConfigMismatch-clause-bytes c = rw c.in-ConfigMismatch.is c.named-in-ConfigMismatch.ensures.bytes
+returns-in-ConfigMismatch-clause-bytes c =
+    rw c.in-ConfigMismatch.is c.named-in-ConfigMismatch.ensures.bytes
 
 pub returns-in-StartTimeout-clause-bytes : goal.returns-in-StartTimeout-clause-bytes
-returns-in-StartTimeout-clause-bytes c = rw c.in-StartTimeout.is c.named-in-StartTimeout.ensures.bytes
+returns-in-StartTimeout-clause-bytes c =
+    rw c.in-StartTimeout.is c.named-in-StartTimeout.ensures.bytes

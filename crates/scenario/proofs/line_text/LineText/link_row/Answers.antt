@@ -10,6 +10,10 @@ returns-clause-line c =
     let p = c.args.link.now.params in
     let t = c.args.link.now.timing in
     let due : List ℕ = period p ∷ lat_ticks p t ∷ latency p t ∷ depth p t ∷ bound p t ∷ [] in
-    let values : (c.period.result ∷ c.lat_ticks.result ∷ c.latency.result ∷ c.depth.result ∷ c.bound.result ∷ []) ≡ due = cc in
-    line-of-fields (codes "link") (fields_text (map decimal due)) c.start.new.self.bytes c.numbers.new.self.bytes c.put_byte.new.self.bytes
-    c.start.ensures.bytes (c.numbers.ensures.bytes ∙ ap (λ ns. c.start.new.self.bytes ++ fields_text (map decimal ns)) values) c.put_byte.ensures.bytes
+    let values : (c.period.result ∷ c.lat_ticks.result ∷ c.latency.result ∷ c.depth.result
+    ∷ c.bound.result ∷ []) ≡ due = cc in
+    line-of-fields (codes "link") (fields_text (map decimal due)) c.start.new.self.bytes
+    c.numbers.new.self.bytes c.put_byte.new.self.bytes
+    c.start.ensures.bytes
+    (c.numbers.ensures.bytes ∙ ap (λ ns. c.start.new.self.bytes ++ fields_text (map decimal ns))
+    values) c.put_byte.ensures.bytes

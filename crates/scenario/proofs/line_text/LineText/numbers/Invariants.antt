@@ -4,7 +4,8 @@ use Rattle.scenario.proofs.line_text.LineText.numbers.Given as goal
 
 abbrev pub invariant-loop-value : goal.invariant-loop-value
 invariant-loop-value l = record {
-  bytes : l.self.bytes ≡ l.initial.self.bytes ++ fields_text (map decimal (take l.value-index l.values));
+  bytes : l.self.bytes ≡ l.initial.self.bytes
+      ++ fields_text (map decimal (take l.value-index l.values));
   short : length l.self.bytes ≤ length l.initial.self.bytes + 11 * l.value-index;
   room : l.initial.self.room ≤ l.self.room;
 }

@@ -18,9 +18,12 @@ invariant_of-result c =
     let r = c.args.self in
     let sound = subst (λ s. AreSound s (seen_of r)) c.requires.place c.requires.sound in
     let is : b.link.params ≡ q = sym c.shape.ensures.same in
-    let input = subst (λ p. IsGiven p r.words.items c.input_of.result) is (given b.link.params b.ramp r.words.items c.input_of.result c.shape.ensures.legal c.input_of.ensures sound.0) in
+    let input = subst (λ p. IsGiven p r.words.items c.input_of.result) is
+    (given b.link.params b.ramp r.words.items c.input_of.result c.shape.ensures.legal
+    c.input_of.ensures sound.0) in
     let ticks = subst (λ p. AreTicks p b.ticks b.print) is sound.2 in
-    let events = subst (λ p. AreEvents p b.ticks r.events.items r.jitters.items r.flips.items) is sound.3 in
+    let events = subst (λ p. AreEvents p b.ticks r.events.items r.jitters.items r.flips.items) is
+    sound.3 in
     let moved = c.in-Ok.ensures.same in
     record {
       whole_frames = input.whole;
@@ -30,7 +33,8 @@ invariant_of-result c =
       few_ticks = ticks.few;
       few_octets = ticks.octets;
       few_words = ticks.words;
-      events_fit = All-permutation (λ e. IsTrue (event_fits q b.ticks e)) _ _ moved events.events_fit;
+      events_fit = All-permutation (λ e. IsTrue (event_fits q b.ticks e)) _ _ moved
+          events.events_fit;
       jitters_fit = events.jitters_fit;
       flips_fit = events.flips_fit;
       events_ordered = c.in-Ok.ensures.sorted;
@@ -39,6 +43,12 @@ invariant_of-result c =
       same_shape = λ k e. let same : b.link ≡ k = cc e in ap (λ l. l.params) (sym same) ∙ is;
       some_ticks = λ k e. ticks.some;
       some_words = λ k e. input.some;
+      no_ticks = λ e. absurd (cc e);
+      no_print = λ e. absurd (cc e);
+      no_ramp = λ e. absurd (cc e);
+      no_events = λ e. absurd (cc e);
+      no_jitters = λ e. absurd (cc e);
+      no_flips = λ e. absurd (cc e);
     }
 
 pub returns-in-Ok : goal.returns-in-Ok
@@ -47,11 +57,14 @@ returns-in-Ok c =
     let p = b.link.params in
     let seen = seen_of c.args.self in
     let sound = subst (λ s. AreSound s seen) c.requires.place c.requires.sound in
-    let input = given p b.ramp c.args.self.words.items c.input_of.result c.shape.ensures.legal c.input_of.ensures sound.0 in
+    let input = given p b.ramp c.args.self.words.items c.input_of.result c.shape.ensures.legal
+    c.input_of.ensures sound.0 in
     let events = sound.3 in
-    let fits = All-permutation (λ e. IsTrue (event_fits p b.ticks e)) _ _ c.in-Ok.ensures.same events.events_fit in
+    let fits = All-permutation (λ e. IsTrue (event_fits p b.ticks e)) _ _ c.in-Ok.ensures.same
+    events.events_fit in
     let below = All-weaker (λ e. IsTrue (event_fits p b.ticks e)) (λ (e : Event). e.tick < b.ticks)
-    (λ e h. ltb-true e.tick b.ticks (and_parts (nat_lt e.tick b.ticks) (what_fits p e.what) h).0) _ fits in
+    (λ e h. ltb-true e.tick b.ticks (and_parts (nat_lt e.tick b.ticks) (what_fits p e.what) h).0) _
+    fits in
     let order = c.in-Ok.ensures.order b.ticks below in
     record {
       shape = ap shape_of c.requires.place ∙ ap Some (sym c.shape.ensures.same);
