@@ -26,26 +26,35 @@ below_in xs r m some all = elim (cases_lt r (length xs)) [
   | inr past ↦ rw (get_or_past xs r 0 past) some
 ]
 
-below_in_map : (xs : List ℕ) (r m : ℕ) (f : ℕ → ℕ) → 0 < m → ((k : ℕ) → f k < m) → get_or (map f xs) r 0 < m
+below_in_map : (xs : List ℕ) (r m : ℕ) (f : ℕ → ℕ) → 0 < m → ((k : ℕ) → f k < m)
+    → get_or (map f xs) r 0 < m
 below_in_map [] r m f some each = some
 below_in_map (x ∷ xs) zero m f some each = each x
 below_in_map (x ∷ xs) (suc r) m f some each = below_in_map xs r m f some each
 
-word_below : (i : Input) (p : Params) (n k : ℕ) → All (λ w. w < 2 ^ (p.n + p.cs)) (input_words i) → source_word p (source_in i) n k < 2 ^ (p.n + p.cs)
-word_below (input.Ramp start step) p n k fit = mod-lt (start + step * (n * (p.m * p.s) + k)) (pow_pos (p.n + p.cs))
-word_below (input.Frames words) p n k fit = below_in words.items (n % (length words.items / (p.m * p.s)) * (p.m * p.s) + k) (2 ^ (p.n + p.cs)) (pow_pos (p.n + p.cs)) fit
+word_below : (i : Input) (p : Params) (n k : ℕ) → All (λ w. w < 2 ^ (p.n + p.cs)) (input_words i)
+    → source_word p (source_in i) n k < 2 ^ (p.n + p.cs)
+word_below (input.Ramp start step) p n k fit = mod-lt (start + step * (n * (p.m * p.s) + k))
+    (pow_pos (p.n + p.cs))
+word_below (input.Frames words) p n k fit =
+    below_in words.items (n % (length words.items / (p.m * p.s)) * (p.m * p.s) + k)
+    (2 ^ (p.n + p.cs)) (pow_pos (p.n + p.cs)) fit
 
 -- ---- the plan of a scenario
 
-same_source : (link : Option Link) (s : Scenario) (plan : Plan) → plan_with link s ≡ Some plan → plan.source ≡ source_in s.input
+same_source : (link : Option Link) (s : Scenario) (plan : Plan) → plan_with link s ≡ Some plan
+    → plan.source ≡ source_in s.input
 same_source None s plan e = let bad : None ≡ Some plan = e in absurd (cc)
 same_source (Some k) s plan e = sym (ap (λ o. (unwrap_or o plan).source) e)
 
-same_params_in : (link : Option Link) (s : Scenario) (plan : Plan) → plan_with link s ≡ Some plan → ForSome link (λ k. k.params ≡ s.shape) → plan.link.params ≡ s.shape
+same_params_in : (link : Option Link) (s : Scenario) (plan : Plan) → plan_with link s ≡ Some plan
+    → ForSome link (λ k. k.params ≡ s.shape) → plan.link.params ≡ s.shape
 same_params_in None s plan e same = let bad : None ≡ Some plan = e in absurd (cc)
-same_params_in (Some k) s plan e same = sym (ap (λ o. (unwrap_or o plan).link.params) e) ∙ same k refl
+same_params_in (Some k) s plan e same = sym (ap (λ o. (unwrap_or o plan).link.params) e)
+    ∙ same k refl
 
-some_plan_in : (link : Option Link) (s : Scenario) → is_some link ≡ true → (plan : Plan) × (plan_with link s ≡ Some plan)
+some_plan_in : (link : Option Link) (s : Scenario) → is_some link ≡ true
+    → (plan : Plan) × (plan_with link s ≡ Some plan)
 some_plan_in None s e = absurd (cc)
 some_plan_in (Some k) s e = (_, refl)
 
@@ -56,28 +65,38 @@ same_params s plan is = same_params_in s.link s plan is s.same_shape
 pub some_plan : (s : Scenario) → is_some s.link ≡ true → (plan : Plan) × (plan_of s ≡ Some plan)
 some_plan s e = some_plan_in s.link s e
 
-frame_below_in : (plan : Plan) (i : Input) (p : Params) (n r : ℕ) → plan.link.params ≡ p → plan.source ≡ source_in i → All (λ w. w < 2 ^ (p.n + p.cs)) (input_words i)
+frame_below_in : (plan : Plan) (i : Input) (p : Params) (n r : ℕ) → plan.link.params ≡ p
+    → plan.source ≡ source_in i → All (λ w. w < 2 ^ (p.n + p.cs)) (input_words i)
     → get_or (source_frame plan n) r 0 < 2 ^ (p.n + p.cs)
 unfolding source_frame
 frame_below_in plan i p n r same source fit =
-    rw (same, source) (below_in_map (numbers_from 0 (p.m * p.s)) r (2 ^ (p.n + p.cs)) (source_word p (source_in i) n) (pow_pos (p.n + p.cs)) (λ k. word_below i p n k fit))
+    rw (same, source) (below_in_map (numbers_from 0 (p.m * p.s)) r (2 ^ (p.n + p.cs))
+    (source_word p (source_in i) n) (pow_pos (p.n + p.cs)) (λ k. word_below i p n k fit))
 
 -- the words of its frames fit
-pub frame_below : (s : Scenario) (plan : Plan) (n r : ℕ) → plan_of s ≡ Some plan → get_or (source_frame plan n) r 0 < 2 ^ (s.shape.n + s.shape.cs)
-frame_below s plan n r is = frame_below_in plan s.input s.shape n r (same_params s plan is) (same_source s.link s plan is) s.words_fit
+pub frame_below : (s : Scenario) (plan : Plan) (n r : ℕ) → plan_of s ≡ Some plan
+    → get_or (source_frame plan n) r 0 < 2 ^ (s.shape.n + s.shape.cs)
+frame_below s plan n r is = frame_below_in plan s.input s.shape n r (same_params s plan is)
+    (same_source s.link s plan is) s.words_fit
 
-pub fits : (s : Scenario) (plan : Plan) (p : Params) (n r : ℕ) (words : List ℕ) → plan_of s ≡ Some plan → s.shape ≡ p → words ≡ source_frame plan n
+pub fits : (s : Scenario) (plan : Plan) (p : Params) (n r : ℕ) (words : List ℕ)
+    → plan_of s ≡ Some plan → s.shape ≡ p → words ≡ source_frame plan n
     → slice_index words r < 2 ^ (p.n + p.cs)
 fits s plan p n r words is same e = rw (e, sym same) (frame_below s plan n r is)
 
-pub frame_is : (s : Scenario) (plan : Plan) (p : Params) (n : ℕ) (words octets : List ℕ) → OneFrame → plan_of s ≡ Some plan → s.shape ≡ p → broken_law s.shape ≡ None
-    → length words ≡ p.m * p.s → words ≡ source_frame plan n → IsFrame p words octets → octets ≡ frame_of plan.link.params (source_frame plan n)
+pub frame_is : (s : Scenario) (plan : Plan) (p : Params) (n : ℕ) (words octets : List ℕ) → OneFrame
+    → plan_of s ≡ Some plan → s.shape ≡ p → broken_law s.shape ≡ None
+    → length words ≡ p.m * p.s → words ≡ source_frame plan n → IsFrame p words octets
+    → octets ≡ frame_of plan.link.params (source_frame plan n)
 frame_is s plan p n words octets one is same legal whole e laid =
-    let fit : FitFrame p words = record { whole = whole; below = λ r inside. fits s plan p n r words is same e } in
+    let fit : FitFrame p words =
+    record { whole = whole; below = λ r inside. fits s plan p n r words is same e } in
     one p words octets (ap broken_law (sym same) ∙ legal) fit laid
     ∙ ap (frame_of p) e
     ∙ ap (λ (q : Params). frame_of q (source_frame plan n)) (sym (same_params s plan is ∙ same))
 
 -- what a slice's borrow of a list leaves in it
-pub left_in : (k : ℕ) (written before : List ℕ) → k ≡ length written → take k (written ++ drop (length written) before) ≡ written
-left_in k written before e = ap (λ (n : ℕ). take n (written ++ drop (length written) before)) e ∙ take-append_seam written (drop (length written) before)
+pub left_in : (k : ℕ) (written before : List ℕ) → k ≡ length written
+    → take k (written ++ drop (length written) before) ≡ written
+left_in k written before e = ap (λ (n : ℕ). take n (written ++ drop (length written) before)) e
+    ∙ take-append_seam written (drop (length written) before)

@@ -14,7 +14,8 @@ wait-periods w n some =
     omega arith
 
 -- an edge comes at the transmitter no later than a period after it comes at the receiver
-pub edges-within : (p : Params) (t : Timing) (w x : ℕ) → broken_timing p t ≡ None → 1 ≤ period p → tx_edge t + w ≤ x + rx_edge t + (w + 1) * period p
+pub edges-within : (p : Params) (t : Timing) (w x : ℕ) → broken_timing p t ≡ None → 1 ≤ period p
+    → tx_edge t + w ≤ x + rx_edge t + (w + 1) * period p
 edges-within p t w x legal some =
     let skew = (timely p t legal).tx_skew in
     let long = wait-periods w (period p) some in

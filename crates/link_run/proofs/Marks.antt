@@ -10,7 +10,7 @@ use Rattle.link_params.specs.declared.cells.Mark.{Mark}
 use Rattle.link_params.specs.declared.cells.Mark.TheVariants.{Ok as Good, Fixed, Bad}
 use Rattle.link_params.specs.Lanes.{worse}
 use Rattle.scenario.specs.Plans.{numbers_from}
-use Rattle.link_run.specs.Gathered.{mark_of, no_cell}
+use Rattle.link_model.specs.Before.{mark_of, no_cell}
 
 -- how bad a mark is
 abbrev pub rank : Mark → ℕ
@@ -48,7 +48,8 @@ is_worse Bad Bad = record { left = omega arith; right = omega arith; least = λ 
 record IsFold (m : Mark) (cells : List LaneCell) (w : Mark) : Type 0 where
   first : rank m ≤ rank w
   each : (i : ℕ) → i < length cells → rank ((get_or cells i no_cell).mark) ≤ rank w
-  least : (b : ℕ) → rank m ≤ b → ((i : ℕ) → i < length cells → rank ((get_or cells i no_cell).mark) ≤ b) → rank w ≤ b
+  least : (b : ℕ) → rank m ≤ b
+      → ((i : ℕ) → i < length cells → rank ((get_or cells i no_cell).mark) ≤ b) → rank w ≤ b
 
 each_at : (c : LaneCell) (cells : List LaneCell) (w : Mark) → rank c.mark ≤ rank w
     → ((i : ℕ) → i < length cells → rank ((get_or cells i no_cell).mark) ≤ rank w)
@@ -56,8 +57,14 @@ each_at : (c : LaneCell) (cells : List LaneCell) (w : Mark) → rank c.mark ≤ 
 each_at c cells w here more zero h = here
 each_at c cells w here more (suc i) h = more i (omega arith)
 
-is_fold : (cells : List LaneCell) (m : Mark) → IsFold m cells (fold worse m (map (λ c. c.mark) cells))
-is_fold [] m = record { first = omega arith; each = λ i h. absurd (omega arith); least = λ b h k. h }
+is_fold : (cells : List LaneCell) (m : Mark)
+    → IsFold m cells (fold worse m (map (λ c. c.mark) cells))
+is_fold [] m = record {
+  first = omega arith;
+  each = λ i h. absurd (omega arith);
+  least =
+      λ b h k. h;
+}
 is_fold (c ∷ cells) m =
     let one = is_worse m c.mark in
     let more = is_fold cells (worse m c.mark) in
@@ -66,8 +73,10 @@ is_fold (c ∷ cells) m =
     let right = one.right in
     record {
       first = omega arith;
-      each = λ i h. each_at c cells (fold worse (worse m c.mark) (map (λ d. d.mark) cells)) (omega arith) more.each i h;
-      least = λ b h k. more.least b (one.least b h (k 0 (omega arith))) (λ i lt. k (suc i) (omega arith));
+      each = λ i h. each_at c cells (fold worse (worse m c.mark) (map (λ d. d.mark) cells))
+          (omega arith) more.each i h;
+      least = λ b h k. more.least b (one.least b h (k 0 (omega arith)))
+          (λ i lt. k (suc i) (omega arith));
     }
 
 -- ---- by lanes and by columns
@@ -75,9 +84,11 @@ is_fold (c ∷ cells) m =
 -- the worst mark of the first m cells of each lane
 pub record IsWorst (lanes m : ℕ) (cell : ℕ → ℕ → LaneCell) (w : Mark) : Type 0 where
   pub each : (lane j : ℕ) → lane < lanes → j < m → rank ((cell lane j).mark) ≤ rank w
-  pub least : (b : ℕ) → ((lane j : ℕ) → lane < lanes → j < m → rank ((cell lane j).mark) ≤ b) → rank w ≤ b
+  pub least : (b : ℕ) → ((lane j : ℕ) → lane < lanes → j < m → rank ((cell lane j).mark) ≤ b)
+      → rank w ≤ b
 
-pub worst_unique : (lanes m : ℕ) (cell : ℕ → ℕ → LaneCell) (v w : Mark) → IsWorst lanes m cell v → IsWorst lanes m cell w → v ≡ w
+pub worst_unique : (lanes m : ℕ) (cell : ℕ → ℕ → LaneCell) (v w : Mark) → IsWorst lanes m cell v
+    → IsWorst lanes m cell w → v ≡ w
 worst_unique lanes m cell v w a b = rank-inj v w (a.least (rank w) b.each) (b.least (rank v) a.each)
 
 pub length-numbers : (n a : ℕ) → length (numbers_from a n) ≡ n
@@ -92,11 +103,13 @@ get_or-numbers (suc n) a zero d h = omega arith
 get_or-numbers (suc n) a (suc i) d h = get_or-numbers n (suc a) i d (omega arith) ∙ omega arith
 
 -- the cells of each lane, lane 0's first, are those with these numbers
-pub get_or-cells : (h : ℕ → LaneCell) (n i : ℕ) → i < n → get_or (map h (numbers_from 0 n)) i no_cell ≡ h i
+pub get_or-cells : (h : ℕ → LaneCell) (n i : ℕ) → i < n
+    → get_or (map h (numbers_from 0 n)) i no_cell ≡ h i
 get_or-cells h n i lt =
     let in_numbers : i < length (numbers_from 0 n) = rw (length-numbers n 0) lt in
     let e : 0 + i ≡ i = omega arith in
-    get_or-map h (numbers_from 0 n) i 0 no_cell in_numbers ∙ (ap h (get_or-numbers n 0 i 0 lt) ∙ ap h e)
+    get_or-map h (numbers_from 0 n) i 0 no_cell in_numbers
+    ∙ (ap h (get_or-numbers n 0 i 0 lt) ∙ ap h e)
 
 pub length-cells : (h : ℕ → LaneCell) (n : ℕ) → length (map h (numbers_from 0 n)) ≡ n
 length-cells h n = length-map (numbers_from 0 n) h ∙ length-numbers n 0
@@ -122,24 +135,36 @@ mark_of-cells lanes m cell =
       each = λ lane j in_lanes in_lane.
           let bound = mul-add-lt lane m j lanes in_lanes in_lane in
           let lt : lane * m + j < lanes * m = omega arith in
-          let here = rw (get_or-cells h (lanes * m) (lane * m + j) lt, div-mul-add lane m j in_lane, mod-mul-add lane m j in_lane) at
+          let here =
+          rw (
+            get_or-cells h (lanes * m) (lane * m + j) lt,
+            div-mul-add lane m j in_lane,
+            mod-mul-add lane m j in_lane,
+          ) at
           (f.each (lane * m + j) (rw (length-cells h (lanes * m)) lt)) in
           here;
       least = λ b every. f.least b (omega arith) (λ i lt.
           let within = rw (length-cells h (lanes * m)) at lt in
           let some = some-of-product i lanes m within in
-          rw (get_or-cells h (lanes * m) i within) (every (i / m) (i % m) (lane-lt i lanes m within) (mod-lt i some)));
+          rw (get_or-cells h (lanes * m) i within)
+          (every (i / m) (i % m) (lane-lt i lanes m within) (mod-lt i some)));
     }
 
 pub worst_same : (lanes m : ℕ) (cell other : ℕ → ℕ → LaneCell) (w : Mark)
-    → ((lane j : ℕ) → lane < lanes → j < m → other lane j ≡ cell lane j) → IsWorst lanes m cell w → IsWorst lanes m other w
+    → ((lane j : ℕ) → lane < lanes → j < m → other lane j ≡ cell lane j) → IsWorst lanes m cell w
+    → IsWorst lanes m other w
 worst_same lanes m cell other w same is = record {
-  each = λ lane j in_lanes in_lane. rw (same lane j in_lanes in_lane) (is.each lane j in_lanes in_lane);
-  least = λ b every. is.least b (λ lane j in_lanes in_lane. rw (same lane j in_lanes in_lane) at (every lane j in_lanes in_lane));
+  each = λ lane j in_lanes in_lane. rw (same lane j in_lanes in_lane)
+      (is.each lane j in_lanes in_lane);
+  least =
+      λ b every. is.least b
+      (λ lane j in_lanes in_lane. rw (same lane j in_lanes in_lane) at
+      (every lane j in_lanes in_lane));
 }
 
 -- a column more
-pub worst_more : (lanes m : ℕ) (cell : ℕ → ℕ → LaneCell) (w : Mark) (column : List LaneCell) → length column ≡ lanes
+pub worst_more : (lanes m : ℕ) (cell : ℕ → ℕ → LaneCell) (w : Mark) (column : List LaneCell)
+    → length column ≡ lanes
     → ((lane : ℕ) → cell lane m ≡ get_or column lane no_cell)
     → IsWorst lanes m cell w → IsWorst lanes (m + 1) cell (fold worse w (map (λ c. c.mark) column))
 worst_more lanes m cell w column size last is =
@@ -152,6 +177,8 @@ worst_more lanes m cell w column size last is =
             let e : j ≡ m = omega arith in
             rw (e, last lane) (f.each lane (omega arith))
       ];
-      least = λ b every. f.least b (is.least b (λ lane j in_lanes in_lane. every lane j in_lanes (omega arith)))
+      least =
+          λ b every. f.least b
+          (is.least b (λ lane j in_lanes in_lane. every lane j in_lanes (omega arith)))
           (λ i lt. rw (← last i) (every i m (omega arith) (omega arith)));
     }

@@ -22,43 +22,56 @@ use Rattle.lane_b.specs.Received.{report_b, report_of}
 use Rattle.bring_up.specs.Controls.{NamesOctet}
 
 -- a cause Config comes from a configuration octet that is not the last one
-from-place : (allowed inside : Bool) (cause : Option IlasCause) → (if allowed then (if inside then cause else None) else Some Wrong) ≡ Some Config
+from-place : (allowed inside : Bool) (cause : Option IlasCause)
+    → (if allowed then (if inside then cause else None) else Some Wrong) ≡ Some Config
     → (inside ≡ true) × (cause ≡ Some Config)
 from-place true true cause is = (refl, is)
 from-place true false cause is = absurd (cc)
 from-place false inside cause is = absurd (cc)
 
-from-octet : (last sum other : Bool) → (if last then (if sum then None else Some Fchk) else (if other then Some Config else None)) ≡ Some Config → last ≡ false
+from-octet : (last sum other : Bool)
+    → (if last then (if sum then None else Some Fchk) else (if other then Some Config else None))
+    ≡ Some Config → last ≡ false
 from-octet true true other is = absurd (cc)
 from-octet true false other is = absurd (cc)
 from-octet false sum other is = refl
 
-config-at : (p : Params) (lane : ℕ) (readings : List Reading) (y : ℕ) (r : Reading) → cause_at p lane readings y r ≡ Some Config
+config-at : (p : Params) (lane : ℕ) (readings : List Reading) (y : ℕ) (r : Reading)
+    → cause_at p lane readings y r ≡ Some Config
     → (period p + 2 ≤ y) × (y < period p + 15)
 unfolding cause_at
 config-at p lane readings y Invalid is = absurd (cc)
 config-at p lane readings y (Disparity c) is = absurd (cc)
 config-at p lane readings y (Read c) is =
     let first = period p + 2 in
-    let f = from-place (is_allowed (ilas_char p lane y) c) (nat_le first y && nat_lt y (first + 14)) (config_cause p lane readings (y - first) (octet_of_char c)) is in
-    let last = from-octet (y - first == 13) (has_sum (config_read p readings)) (differs p lane (y - first) (octet_of_char c)) f.1 in
+    let f = from-place (is_allowed (ilas_char p lane y) c) (nat_le first y && nat_lt y (first + 14))
+    (config_cause p lane readings (y - first) (octet_of_char c)) is in
+    let last = from-octet (y - first == 13) (has_sum (config_read p readings))
+    (differs p lane (y - first) (octet_of_char c)) f.1 in
     let b = and_parts (nat_le first y) (nat_lt y (first + 14)) f.0 in
     let low : first ≤ y = leb-true first y b.0 in
     let high : y < first + 14 = ltb-true y (first + 14) b.1 in
     let other : y - first ≢ 13 = eqb-false (y - first) 13 last in
     (low, omega arith)
 
-is-fault : (y x : ℕ) (o : Option IlasCause) (later : IlasState) → fault_or y o later ≡ Fault x Config → ((o ≡ Some Config) × (y ≡ x)) ⊎ (later ≡ Fault x Config)
+is-fault : (y x : ℕ) (o : Option IlasCause) (later : IlasState)
+    → fault_or y o later ≡ Fault x Config → ((o ≡ Some Config) × (y ≡ x)) ⊎ (later ≡ Fault x Config)
 is-fault y x None later is = inr is
 is-fault y x (Some cause) later is = inl (cc, cc)
 
-config-first : (rest : List Reading) (p : Params) (lane : ℕ) (readings : List Reading) (y : ℕ) (state : IlasState) (x : ℕ) → (state ≡ Fault x Config → ⊥)
-    → first_fault p lane readings y rest state ≡ Fault x Config → (period p + 2 ≤ x) × (x < period p + 15)
+config-first : (rest : List Reading) (p : Params) (lane : ℕ) (readings : List Reading) (y : ℕ)
+    (state : IlasState) (x : ℕ) → (state ≡ Fault x Config → ⊥)
+    → first_fault p lane readings y rest state ≡ Fault x Config
+    → (period p + 2 ≤ x) × (x < period p + 15)
 unfolding first_fault
 config-first [] p lane readings y state x none is = absurd (none is)
 config-first (r ∷ rest) p lane readings y state x none is =
-    elim (is-fault y x (cause_at p lane readings y r) (first_fault p lane readings (suc y) rest state) is) [
-      | inl here ↦ let same : y ≡ x = here.1 in let inside = config-at p lane readings y r here.0 in (omega (arith, inside.0), omega (arith, inside.1))
+    elim
+    (is-fault y x (cause_at p lane readings y r)
+    (first_fault p lane readings (suc y) rest state) is) [
+      | inl here ↦ let same : y ≡ x = here.1 in
+          let inside = config-at p lane readings y r here.0 in
+          (omega (arith, inside.0), omega (arith, inside.1))
       | inr later ↦ config-first rest p lane readings (suc y) state x none later
     ]
 
@@ -66,31 +79,37 @@ goes-on : (done : Bool) (x : ℕ) → (if done then Done else Going) ≡ Fault x
 goes-on true x is = absurd (cc)
 goes-on false x is = absurd (cc)
 
-config-state : (p : Params) (lane : ℕ) (readings : List Reading) (x : ℕ) → ilas_state p lane readings ≡ Fault x Config → (period p + 2 ≤ x) × (x < period p + 15)
+config-state : (p : Params) (lane : ℕ) (readings : List Reading) (x : ℕ)
+    → ilas_state p lane readings ≡ Fault x Config → (period p + 2 ≤ x) × (x < period p + 15)
 unfolding ilas_state
 config-state p lane [] x is = absurd (cc)
 config-state p lane (r ∷ rest) x is =
     let n = 4 * period p in
     let readings = take n (r ∷ rest) in
-    config-first readings p lane readings 0 (if length readings == n then Done else Going) x (goes-on (length readings == n) x) is
+    config-first readings p lane readings 0 (if length readings == n then Done else Going) x
+    (goes-on (length readings == n) x) is
 
-report-octet : (p : Params) (lane : ℕ) (taken : List Taken) (o : Option Lock) → NamesOctet p (report_of p lane taken o)
+report-octet : (p : Params) (lane : ℕ) (taken : List Taken) (o : Option Lock)
+    → NamesOctet p (report_of p lane taken o)
 report-octet p lane taken None = λ x is. absurd (cc)
 report-octet p lane taken (Some l) = λ x is. config-state p lane (since_start l) x is
 
-pub names-octet : (p : Params) (t : Timing) (lane : ℕ) (taken : List Taken) → NamesOctet p (report_b p t lane taken)
+pub names-octet : (p : Params) (t : Timing) (lane : ℕ) (taken : List Taken)
+    → NamesOctet p (report_b p t lane taken)
 unfolding report_b
 names-octet p t lane taken = report-octet p lane taken (lock taken)
 
 -- ---- the reports of several lanes
 
-name-octets : (lanes : List ℕ) (p : Params) (t : Timing) (f : ℕ → List Taken) (k : ℕ) (d : LaneReport) → k < length lanes
+name-octets : (lanes : List ℕ) (p : Params) (t : Timing) (f : ℕ → List Taken) (k : ℕ)
+    (d : LaneReport) → k < length lanes
     → NamesOctet p (get_or (map (λ lane. report_b p t lane (f lane)) lanes) k d)
 name-octets [] p t f k d below = absurd (omega arith)
 name-octets (lane ∷ lanes) p t f zero d below = names-octet p t lane (f lane)
 name-octets (lane ∷ lanes) p t f (suc k) d below = name-octets lanes p t f k d (omega arith)
 
-pub names-octets : (p : Params) (t : Timing) (f : ℕ → List Taken) (lanes : List ℕ) → All (NamesOctet p) (map (λ lane. report_b p t lane (f lane)) lanes)
+pub names-octets : (p : Params) (t : Timing) (f : ℕ → List Taken) (lanes : List ℕ)
+    → All (NamesOctet p) (map (λ lane. report_b p t lane (f lane)) lanes)
 names-octets p t f lanes = λ k d below.
     let long = length-map lanes (λ lane. report_b p t lane (f lane)) in
     name-octets lanes p t f k d (omega arith)

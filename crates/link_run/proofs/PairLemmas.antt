@@ -15,8 +15,9 @@ use Rattle.lane_b.specs.Sent.{sent_words}
 use Rattle.lane_b.specs.Senders.{HasSent}
 use Rattle.lane_b.specs.Receivers.{HasTaken, Receiver}
 use Rattle.scenario.specs.Plans.{Plan}
-use Rattle.link_run.specs.Run.{last_of}
-use Rattle.link_run.specs.LaneRuns.{HasRunLane, LaneRun, Pair, bits_with, handed_with, settings, stepped, word_with}
+use Rattle.link_model.specs.LaneRuns.{LaneRun, bits_with, handed_with, stepped, word_with}
+use Rattle.link_model.specs.Sends.{last_of}
+use Rattle.link_run.specs.LaneRuns.{HasRunLane, Pair, settings}
 
 last_of-push : (xs : List (List Bool)) (d x : List Bool) → last_of d (xs ++ x ∷ []) ≡ x
 unfolding last_of
@@ -24,37 +25,56 @@ last_of-push [] d x = refl
 last_of-push (y ∷ ys) d x = last_of-push ys y x
 
 last-word : (ws : List ℕ) (w : ℕ) → last_of [] (map (bits 10) (ws ++ w ∷ [])) ≡ bits 10 w
-last-word ws w = ap (last_of []) (map-append (bits 10) ws (w ∷ [])) ∙ last_of-push (map (bits 10) ws) [] (bits 10 w)
+last-word ws w = ap (last_of []) (map-append (bits 10) ws (w ∷ []))
+    ∙ last_of-push (map (bits 10) ws) [] (bits 10 w)
 
-by-hunt : (hunt : Bool) (now : Receiver) (p : Params) (t : Timing) (lane : ℕ) (begun longer : List Taken) (gave : ℕ) → (hunt ≡ true → HasTaken now p t lane begun 0)
-    → (hunt ≡ false → HasTaken now p t lane longer gave) → HasTaken now p t lane (if hunt then begun else longer) (if hunt then 0 else gave)
+by-hunt : (hunt : Bool) (now : Receiver) (p : Params) (t : Timing) (lane : ℕ)
+    (begun longer : List Taken) (gave : ℕ) → (hunt ≡ true → HasTaken now p t lane begun 0)
+    → (hunt ≡ false → HasTaken now p t lane longer gave)
+    → HasTaken now p t lane (if hunt then begun else longer) (if hunt then 0 else gave)
 by-hunt true now p t lane begun longer gave begins goes_on = begins refl
 by-hunt false now p t lane begun longer gave begins goes_on = goes_on refl
 
 -- what the parts of a lane do in a tick: w is sent, r is received
-pub record HasTicked (new : Pair) (s : Plan) (lane : ℕ) (x : LaneRun) (order : TxOrder) (octet : ℕ) (told : RxOrder) (w r : ℕ) : Type 0 where
+pub record HasTicked (new : Pair) (s : Plan) (lane : ℕ) (x : LaneRun) (order : TxOrder) (octet : ℕ)
+    (told : RxOrder) (w r : ℕ) : Type 0 where
   pub narrow : width s.link.params ≡ 10
-  pub sends : sent_words s.link.params lane (handed_with x order octet) ≡ sent_words s.link.params lane x.handed ++ w ∷ []
+  pub sends : sent_words s.link.params lane (handed_with x order octet)
+      ≡ sent_words s.link.params lane x.handed ++ w ∷ []
   pub sent : HasSent new.tx s.link.params lane (handed_with x order octet)
-  pub answer : bits (width s.link.params) r ≡ line_word (width s.link.params) (x.sent ++ bits (width s.link.params) w) (settings s lane x).flips x.delay x.dead
+  pub answer : bits (width s.link.params) r ≡ line_word (width s.link.params)
+      (x.sent ++ bits (width s.link.params) w) (settings s lane x).flips x.delay x.dead
   pub carried : HasCarried new.line (settings s lane x) (x.sent ++ bits (width s.link.params) w)
-  pub goes_on : told.hunt ≡ false → HasTaken new.rx s.link.params s.link.timing lane (x.taken ++ (record { order = told; word = bits 10 r }) ∷ []) x.gave
-  pub begins : told.hunt ≡ true → HasTaken new.rx s.link.params s.link.timing lane ((record { order = told; word = bits 10 r }) ∷ []) 0
+  pub goes_on : told.hunt ≡ false
+      → HasTaken new.rx s.link.params s.link.timing lane
+      (x.taken ++ (record { order = told; word = bits 10 r }) ∷ []) x.gave
+  pub begins : told.hunt ≡ true
+      → HasTaken new.rx s.link.params s.link.timing lane
+      ((record { order = told; word = bits 10 r }) ∷ []) 0
   pub same_depth : new.rx.buffer.depth ≡ depth s.link.params s.link.timing
 
-pub lane-ticks : (new : Pair) (s : Plan) (lane : ℕ) (x : LaneRun) (order : TxOrder) (octet : ℕ) (told : RxOrder) (w r : ℕ)
-    → HasTicked new s lane x order octet told w r → HasRunLane new s lane (stepped s lane x order octet told)
+pub lane-ticks : (new : Pair) (s : Plan) (lane : ℕ) (x : LaneRun) (order : TxOrder) (octet : ℕ)
+    (told : RxOrder) (w r : ℕ)
+    → HasTicked new s lane x order octet told w r
+    → HasRunLane new s lane (stepped s lane x order octet told)
 lane-ticks new s lane x order octet told w r t =
-    let sends : bits_with s lane x order octet ≡ bits 10 w = ap (λ ws. last_of [] (map (bits 10) ws)) t.sends ∙ last-word (sent_words s.link.params lane x.handed) w in
-    let same : bits (width s.link.params) w ≡ bits_with s lane x order octet = ap (λ n. bits n w) t.narrow ∙ sym sends in
+    let sends : bits_with s lane x order octet ≡ bits 10 w =
+    ap (λ ws. last_of [] (map (bits 10) ws)) t.sends
+    ∙ last-word (sent_words s.link.params lane x.handed) w in
+    let same : bits (width s.link.params) w ≡ bits_with s lane x order octet =
+    ap (λ n. bits n w) t.narrow ∙ sym sends in
     let word : bits 10 r ≡ word_with s lane x order octet =
     ap (λ n. bits n r) (sym t.narrow) ∙ t.answer
-    ∙ ap (λ bs. line_word (width s.link.params) (x.sent ++ bs) (settings s lane x).flips x.delay x.dead) same in
+    ∙ ap (λ bs. line_word (width s.link.params) (x.sent ++ bs) (settings s lane x).flips x.delay
+    x.dead) same in
     record {
       tx = t.sent;
-      line = subst (λ (bs : List Bool). HasCarried new.line (settings s lane x) (x.sent ++ bs)) same t.carried;
+      line = subst (λ (bs : List Bool). HasCarried new.line (settings s lane x) (x.sent ++ bs)) same
+          t.carried;
       rx = by-hunt told.hunt new.rx s.link.params s.link.timing lane _ _ x.gave
-          (λ hunts. subst (λ (bs : List Bool). HasTaken new.rx s.link.params s.link.timing lane ((record { order = told; word = bs }) ∷ []) 0) word (t.begins hunts))
-          (λ stays. subst (λ (bs : List Bool). HasTaken new.rx s.link.params s.link.timing lane (x.taken ++ (record { order = told; word = bs }) ∷ []) x.gave) word (t.goes_on stays));
+          (λ hunts. subst (λ (bs : List Bool). HasTaken new.rx s.link.params s.link.timing lane
+          ((record { order = told; word = bs }) ∷ []) 0) word (t.begins hunts))
+          (λ stays. subst (λ (bs : List Bool). HasTaken new.rx s.link.params s.link.timing lane
+          (x.taken ++ (record { order = told; word = bs }) ∷ []) x.gave) word (t.goes_on stays));
       depth = t.same_depth;
     }

@@ -12,7 +12,8 @@ pub record IsPlan (s : Scenario) (plan : Plan) : Type 0 where
   pub jitters : plan.jitters ≡ s.jitters.items
   pub flips : plan.flips ≡ s.flips.items
 
-plan-with : (link : Option Link) (s : Scenario) (plan : Plan) → s.link ≡ link → plan_with link s ≡ Some plan → IsPlan s plan
+plan-with : (link : Option Link) (s : Scenario) (plan : Plan) → s.link ≡ link
+    → plan_with link s ≡ Some plan → IsPlan s plan
 plan-with None s plan of is = absurd (cc)
 plan-with (Some k) s plan of is = record {
   link = of ∙ ap (λ o. Some (unwrap_or o plan).link) is;

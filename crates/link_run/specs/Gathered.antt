@@ -1,36 +1,13 @@
 -- The frames that are gathered from what the lanes give.
-use Rattle.std.specs.Prelude.{◌≡◌, ◌<◌, ◌≤◌, ℕ, ◌+◌, ◌-◌, ◌*◌, ◌/◌, ◌%◌, ◌==◌, if◌then◌else◌, List, [], map, fold, length, take, get_or, slice_index, Option, Some, None}
+use Rattle.std.specs.Prelude.{◌≡◌, ◌<◌, ◌≤◌, ℕ, ◌+◌, ◌*◌, ◌/◌, ◌%◌, List, map, fold, length, take, get_or, slice_index, Option, Some}
 use Rattle.link_params.specs.declared.fields.Params.{Params}
 use Rattle.link_params.specs.declared.cells.LaneCell.{LaneCell}
 use Rattle.link_params.specs.declared.cells.Mark.{Mark}
-use Rattle.link_params.specs.declared.cells.Mark.TheVariants.{Ok as Good}
 use Rattle.link_params.specs.Lanes.{worse}
-use Rattle.scenario.specs.Plans.{numbers_from}
+use Rattle.link_model.specs.Before.{Columns, cell_at, cells_of, mark_of, no_cell}
 
-abbrev pub no_cell : LaneCell
-no_cell = record { value = 0; mark = Good }
-
--- a column: what each lane gave in one tick; the columns of a session, oldest first
-abbrev pub Columns : Type 0
-Columns = List (List LaneCell)
-
--- octet j of a lane in frame n of the columns
-abbrev pub cell_at : Params → Columns → ℕ → ℕ → ℕ → LaneCell
-cell_at p columns n lane j = get_or (get_or columns (n * p.f + j) []) lane no_cell
-
--- the first m octets of each lane in frame n, lane 0's first
-abbrev pub cells_of : Params → Columns → ℕ → ℕ → List LaneCell
-cells_of p columns n m = map (λ i. cell_at p columns n (i / m) (i % m)) (numbers_from 0 (p.l * m))
-
-abbrev pub mark_of : List LaneCell → Mark
-mark_of cells = fold worse Good (map (λ c. c.mark) cells)
-
--- a cell of an 8b/10b lane is one octet
-abbrev pub octets_of : List LaneCell → List ℕ
-octets_of cells = map (λ c. c.value % 256) cells
-
--- the parameters, how many octets of each lane are there, the worst of their marks, the octets of the frame, and the words of the frame
--- that became whole last
+-- the parameters, how many octets of each lane are there, the worst of their marks, the octets of
+-- the frame, and the words of the frame that became whole last
 pub record Gathering : Type 0 where
   pub params : Params
   pub at : ℕ
@@ -43,12 +20,8 @@ pub record HasGathered (now : Gathering) (p : Params) (columns : Columns) : Type
   pub same_params : now.params ≡ p
   pub count : now.at ≡ length columns % p.f
   pub worst : now.mark ≡ mark_of (cells_of p columns (length columns / p.f) now.at)
-  pub octets : (lane j : ℕ) → lane < p.l → j < now.at → slice_index now.octets (lane * p.f + j) ≡ (cell_at p columns (length columns / p.f) lane j).value % 256
-
--- the mark of the frame that is whole with the last of these columns
-abbrev pub whole_mark : Params → Columns → Option Mark
-whole_mark p columns = let n = length columns in
-    if n % p.f == 0 then Some (mark_of (cells_of p columns (n / p.f - 1) p.f)) else None
+  pub octets : (lane j : ℕ) → lane < p.l → j < now.at → slice_index now.octets (lane * p.f + j)
+      ≡ (cell_at p columns (length columns / p.f) lane j).value % 256
 
 -- the sizes of a frame that is gathered: its layout is that of the parameters, and it is not whole
 pub record HasSizes (p layout : Params) (at : ℕ) (frame read : List ℕ) : Type 0 where
@@ -64,10 +37,13 @@ pub record HasPut (old now : Gathering) (m : ℕ) (column : List LaneCell) : Typ
   pub same_at : now.at ≡ old.at
   pub same_words : now.words ≡ old.words
   pub worst : now.mark ≡ fold worse old.mark (map (λ c. c.mark) (take m column))
-  pub put : (lane : ℕ) → lane < m → slice_index now.octets (lane * old.params.f + old.at) ≡ (get_or column lane no_cell).value % 256
-  pub kept : (lane j : ℕ) → j < old.at → slice_index now.octets (lane * old.params.f + j) ≡ slice_index old.octets (lane * old.params.f + j)
+  pub put : (lane : ℕ) → lane < m → slice_index now.octets (lane * old.params.f + old.at)
+      ≡ (get_or column lane no_cell).value % 256
+  pub kept : (lane j : ℕ) → j < old.at → slice_index now.octets (lane * old.params.f + j)
+      ≡ slice_index old.octets (lane * old.params.f + j)
 
--- `now` is `old` but for its octets and its mark, and what was given by the first m lanes is there, where each of them gave a cell
+-- `now` is `old` but for its octets and its mark, and what was given by the first m lanes is there,
+-- where each of them gave a cell
 pub record IsPutting (old now : Gathering) (m : ℕ) (given : List (Option LaneCell)) : Type 0 where
   pub same_params : now.params ≡ old.params
   pub same_at : now.at ≡ old.at

@@ -1,14 +1,8 @@
-pub mod Edges
-pub mod Orders
-pub mod Carried
-pub mod Run
-pub mod Report
 pub mod Clocked
 pub mod Seen
 pub mod Sendings
 pub mod LaneRuns
 pub mod Gathered
-pub mod Histories
 pub mod Printing
 pub mod Transmitters
 pub mod ReceiverRuns

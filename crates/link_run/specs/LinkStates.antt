@@ -10,18 +10,22 @@ use Rattle.lane_b.specs.Received.{lanes_b}
 use Rattle.lane_b.specs.Senders.{Follows, next_place}
 use Rattle.scenario.specs.Plans.{Plan}
 use Rattle.link_run.specs.declared.happened.Happened.{Happened}
-use Rattle.link_run.specs.Edges.{is_reset}
-use Rattle.link_run.specs.Run.{Delivered, History, frames_before, moment}
-use Rattle.link_run.specs.Gathered.{Columns, Gathering, HasGathered}
+use Rattle.link_model.specs.Before.{Columns, columns_now, frame_place}
+use Rattle.link_model.specs.Edges.{is_reset}
+use Rattle.link_model.specs.LaneRuns.{lane_ready, lane_run, lane_stepped}
+use Rattle.link_model.specs.Moments.{Delivered, History}
+use Rattle.link_model.specs.Run.{moment}
+use Rattle.link_model.specs.Sends.{frames_before}
+use Rattle.link_run.specs.Gathered.{Gathering, HasGathered}
 use Rattle.link_run.specs.Happened.{are_past}
-use Rattle.link_run.specs.Histories.{columns_now, lane_ready, lane_run, lane_stepped}
 use Rattle.link_run.specs.LaneRuns.{AreAt, HaveRun, Pair}
 use Rattle.link_run.specs.ReceiverRuns.{HasReceivedRun, RxEnd}
 use Rattle.link_run.specs.Seen.{HasFed}
 use Rattle.link_run.specs.Sendings.{next_of}
-use Rattle.link_run.specs.Transmitters.{HasSentRun, TxEnd, frame_place}
+use Rattle.link_run.specs.Transmitters.{HasSentRun, TxEnd}
 
--- the link, the place of the next event, both ends, the lanes, what they gave last, and the frame that is gathered
+-- the link, the place of the next event, both ends, the lanes, what they gave last, and the frame
+-- that is gathered
 pub record LinkView : Type 0 where
   pub link : Link
   pub next : ℕ
@@ -48,7 +52,8 @@ pub record HasHappened (x : Happened) (old now : LinkView) (s : Plan) (h : Histo
   pub rx_reset : x.rx_reset ≡ is_reset s Rx (length h)
   pub next : now.next ≡ are_past s (length h + 1)
   pub lanes : HaveRun now.lanes s (λ lane. lane_ready s h lane)
-  pub at : AreAt now.lanes s.link.params (if x.tx_reset then None else next_of s.link.params old.tx.sending)
+  pub at : AreAt now.lanes s.link.params
+      (if x.tx_reset then None else next_of s.link.params old.tx.sending)
   pub same : now ≡ record old { next = now.next; lanes = now.lanes }
 
 -- the columns of the session to which that tick belongs
@@ -56,7 +61,8 @@ abbrev pub columns_left : Plan → History → Columns
 columns_left s h = if (moment lanes_b s h).told.hunt then [] else columns_now s h
 
 -- the lanes can send and take that tick: with this order, place in the frame and receiver's order
-pub record CanStep (now : LinkView) (order : TxOrder) (at : Option ℕ) (told : RxOrder) (s : Plan) (h : History) : Type 0 where
+pub record CanStep (now : LinkView) (order : TxOrder) (at : Option ℕ) (told : RxOrder) (s : Plan)
+    (h : History) : Type 0 where
   pub lanes : HaveRun now.lanes s (λ lane. lane_ready s h lane)
   pub next : Option ℕ
   pub at_next : AreAt now.lanes s.link.params next
@@ -89,6 +95,8 @@ delivered_of (Some m) left words = record { left = left; mark = m; words = words
 -- and each lane has given what it gives in it
 pub record HasGiven (mark : Option Mark) (now : LinkView) (s : Plan) (h : History) : Type 0 where
   pub lanes : HaveRun now.lanes s (λ lane. lane_run s (h ++ moment lanes_b s h ∷ []) lane)
-  pub gathered : HasGathered now.gathering s.link.params (columns_now s (h ++ moment lanes_b s h ∷ []))
-  pub delivered : (moment lanes_b s h).delivered ≡ delivered_of mark (length h + 1 - s.link.params.f) now.gathering.words
+  pub gathered : HasGathered now.gathering s.link.params
+      (columns_now s (h ++ moment lanes_b s h ∷ []))
+  pub delivered : (moment lanes_b s h).delivered ≡ delivered_of mark
+      (length h + 1 - s.link.params.f) now.gathering.words
   pub given : length now.given ≡ s.link.params.l

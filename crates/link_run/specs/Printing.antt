@@ -3,7 +3,7 @@ use Rattle.std.specs.Prelude.{◌≡◌, ◌≤◌, ℕ, ◌+◌, ◌*◌, Bool,
 use Rattle.link_params.specs.declared.cells.Mark.{Mark}
 use Rattle.scenario.specs.declared.report_row.Totals.{Totals}
 use Rattle.scenario.specs.Plans.{Plan}
-use Rattle.link_run.specs.Report.{Printed, is_bad, is_fixed, is_ok, lines}
+use Rattle.link_model.specs.Report.{Printed, is_bad, is_fixed, is_ok, lines}
 
 -- the text, the room that there is for a line, and the counts
 pub record Printing : Type 0 where

@@ -9,12 +9,16 @@ use Rattle.bring_up.specs.declared.stage.Decision.{Decision}
 use Rattle.lane_b.specs.Received.{lanes_b}
 use Rattle.scenario.specs.Plans.{Plan}
 use Rattle.link_run.specs.declared.rx_tick.RxTick.{RxTick}
+use Rattle.link_model.specs.Before.{decisions_before}
+use Rattle.link_model.specs.Edges.{is_reset, off}
+use Rattle.link_model.specs.Hunts.{ends_in_hunt, standing}
+use Rattle.link_model.specs.Moments.{History}
+use Rattle.link_model.specs.Receives.{told_of}
+use Rattle.link_model.specs.Run.{moment}
 use Rattle.link_run.specs.Clocked.{Clocking, HasRunTo}
-use Rattle.link_run.specs.Edges.{is_reset, off}
-use Rattle.link_run.specs.Run.{History, ends_in_hunt, moment, standing, told_of}
-use Rattle.link_run.specs.Histories.{decisions_before}
 
--- its clock, its control, whether a hunt begins with the next tick, the reports of the last decision, and its alarms
+-- its clock, its control, whether a hunt begins with the next tick, the reports of the last
+-- decision, and its alarms
 pub record RxEnd : Type 0 where
   pub clock : Clocking
   pub control : Controller
@@ -50,9 +54,12 @@ pub record IsToldTick (tick : RxTick) (now : RxEnd) (s : Plan) (h : History) : T
 
 -- a receiver that was told the tick after this history has decided
 pub record Decides (decision : Decision) (old now : RxEnd) (s : Plan) (h : History) : Type 0 where
-  pub decision_due : decision ≡ (decide_at s.link.params s.link.timing (standing s h) (moment lanes_b s h).reports).decision
-  pub alarms : now.alarms ≡ (decide_at s.link.params s.link.timing (standing s h) (moment lanes_b s h).reports).alarms
-  pub control : HasDecided now.control s.link.params s.link.timing (decisions_left s h ++ (moment lanes_b s h).reports ∷ [])
+  pub decision_due : decision
+      ≡ (decide_at s.link.params s.link.timing (standing s h) (moment lanes_b s h).reports).decision
+  pub alarms : now.alarms
+      ≡ (decide_at s.link.params s.link.timing (standing s h) (moment lanes_b s h).reports).alarms
+  pub control : HasDecided now.control s.link.params s.link.timing
+      (decisions_left s h ++ (moment lanes_b s h).reports ∷ [])
   pub same_clock : now.clock ≡ old.clock
   pub lanes : length now.reports ≡ s.link.params.l
 

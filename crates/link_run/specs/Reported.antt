@@ -8,11 +8,13 @@ use Rattle.scenario.specs.declared.report_row.Row.TheVariants as row
 use Rattle.scenario.specs.declared.report_row.Totals.{Totals}
 use Rattle.scenario.specs.Plans.{Plan, source_frame}
 use Rattle.link_run.specs.declared.ticked.Ticked.{Ticked}
-use Rattle.link_run.specs.Edges.{is_reset, off}
-use Rattle.link_run.specs.Run.{History, frames_before, moment}
+use Rattle.link_model.specs.Edges.{is_reset, off}
+use Rattle.link_model.specs.Moments.{History}
+use Rattle.link_model.specs.Report.{Printed, bare, rows_from, totals}
+use Rattle.link_model.specs.Run.{moment}
+use Rattle.link_model.specs.Sends.{frames_before}
 use Rattle.link_run.specs.LinkStates.{delivered_of}
 use Rattle.link_run.specs.Printing.{HasPrinted, Printing}
-use Rattle.link_run.specs.Report.{Printed, bare, rows_from, totals}
 
 -- the rows of these ticks, without the counts
 abbrev pub rows_so_far : Plan → History → List Printed
@@ -23,9 +25,10 @@ pub record HasReported (now : Printing) (s : Plan) (h : History) : Type 0 where
   pub printed : HasPrinted now s (rows_so_far s h)
   pub counts : now.totals ≡ totals s h
 
--- what was seen of the tick after this history; entered: the words of the frame that began, alarms: those of the decision, delivered: the
--- words of the frame that left
-pub record IsSeen (x : Ticked) (entered : List ℕ) (alarms : List Alarm) (delivered : List ℕ) (s : Plan) (h : History) : Type 0 where
+-- what was seen of the tick after this history; entered: the words of the frame that began, alarms:
+-- those of the decision, delivered: the words of the frame that left
+pub record IsSeen (x : Ticked) (entered : List ℕ) (alarms : List Alarm) (delivered : List ℕ)
+    (s : Plan) (h : History) : Type 0 where
   pub rx_reset : x.rx_reset ≡ is_reset s Rx (length h)
   pub tx_off : x.tx_off ≡ off s Tx (length h)
   pub rx_off : x.rx_off ≡ off s Rx (length h)
@@ -33,7 +36,8 @@ pub record IsSeen (x : Ticked) (entered : List ℕ) (alarms : List Alarm) (deliv
   pub entered_words : x.begins ≡ true → entered ≡ source_frame s (frames_before h)
   pub decision : x.decision ≡ (moment lanes_b s h).decided.decision
   pub alarms_are : alarms ≡ (moment lanes_b s h).decided.alarms
-  pub delivered_is : (moment lanes_b s h).delivered ≡ delivered_of x.mark (length h + 1 - s.link.params.f) delivered
+  pub delivered_is : (moment lanes_b s h).delivered ≡ delivered_of x.mark
+      (length h + 1 - s.link.params.f) delivered
   pub fullest : x.fullest ≡ fold max 0 (flat_map (λ m. m.held) (h ++ moment lanes_b s h ∷ []))
 
 -- the counts of t ticks are small

@@ -1,18 +1,16 @@
 -- What the parts of the transmitter keep of a run.
-use Rattle.std.specs.Prelude.{◌≡◌, ℕ, ◌+◌, ◌-◌, Bool, true, List, ◌++◌, length, replicate, take, drop}
+use Rattle.std.specs.Prelude.{◌≡◌, ℕ, ◌+◌, ◌-◌, Bool, true, List, ◌++◌, length, replicate, drop}
 use Rattle.link_params.specs.declared.fields.Params.{Params}
 use Rattle.sample_map.specs.Frames.{frame_of}
 use Rattle.scenario.specs.Plans.{Plan, source_frame}
 
--- the levels of SYNC~ as the transmitter sees them, in each tick up to the one after these levels: true where it is low
-abbrev pub seen_of : ℕ → List Bool → List Bool
-seen_of delay lows = take (length lows + 1) (replicate (delay + 1) true ++ lows)
-
--- a SYNC~ with this delay took these levels, one after each tick; what it keeps is what will be seen next, the first one first
+-- a SYNC~ with this delay took these levels, one after each tick; what it keeps is what will be
+-- seen next, the first one first
 pub record HasSynced (now : List Bool) (delay : ℕ) (lows : List Bool) : Type 0 where
   pub waits : now ≡ drop (length lows) (replicate (delay + 1) true ++ lows)
 
--- the words and octets of the frame that began last: that of frame n less 1, where n frames began, and that of frame 0 before the first
+-- the words and octets of the frame that began last: that of frame n less 1, where n frames began,
+-- and that of frame 0 before the first
 pub record Fed : Type 0 where
   pub params : Params
   pub begun : ℕ

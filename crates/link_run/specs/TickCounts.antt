@@ -3,11 +3,12 @@ use Rattle.std.specs.Prelude.{ℕ, ◌+◌, Bool, if◌then◌else◌, List, [],
 use Rattle.link_params.specs.declared.cells.Mark.{Mark}
 use Rattle.scenario.specs.declared.report_row.Row.TheVariants as row
 use Rattle.scenario.specs.declared.report_row.Totals.{Totals}
-use Rattle.link_run.specs.Report.{Printed, is_bad, is_fixed, is_ok}
+use Rattle.link_model.specs.Report.{Printed, is_bad, is_fixed, is_ok}
 
 -- the row of the frame that began at this octet time, where one did
 abbrev pub entry_rows : Bool → ℕ → List ℕ → List Printed
-entry_rows begins t words = if begins then (record { row = row.Enter t; words = words }) ∷ [] else []
+entry_rows begins t words = if begins then (record { row = row.Enter t; words = words })
+    ∷ [] else []
 
 -- the counts with some alarms more
 abbrev pub with_alarms : Totals → ℕ → Totals

@@ -1,21 +1,20 @@
 -- What the transmitter of a run keeps of its history.
-use Rattle.std.specs.Prelude.{◌≡◌, ℕ, ◌+◌, ◌%◌, ◌==◌, Bool, false, if◌then◌else◌, List, [], ◌∷◌, ◌++◌, length, map, Option, Some, None, option_map}
+use Rattle.std.specs.Prelude.{◌≡◌, ℕ, ◌+◌, ◌==◌, Bool, false, if◌then◌else◌, List, [], ◌∷◌, ◌++◌, length, Option, Some, None}
 use Rattle.link_params.specs.declared.alarms.Device.TheVariants.{Tx}
-use Rattle.link_params.specs.declared.fields.Params.{Params}
 use Rattle.link_params.specs.declared.orders.TxOrder.{TxOrder}
-use Rattle.link_params.specs.declared.orders.TxOrder.TheVariants.{Comma, Ilas, Data, Silent, Block}
-use Rattle.bring_up.specs.Decisions.{is_hunting}
 use Rattle.lane_b.specs.Received.{lanes_b}
 use Rattle.lane_b.specs.Senders.{Follows, next_place}
 use Rattle.scenario.specs.Plans.{Plan}
 use Rattle.link_run.specs.declared.sending.Sending.{Sending}
 use Rattle.link_run.specs.declared.tx_tick.TxTick.{TxTick}
-use Rattle.link_run.specs.Edges.{off}
-use Rattle.link_run.specs.Run.{History, data_place, frames_before, moment, observed, order_of}
+use Rattle.link_model.specs.Before.{frame_place, levels_after, observed_before}
+use Rattle.link_model.specs.Edges.{off}
+use Rattle.link_model.specs.Moments.{History}
+use Rattle.link_model.specs.Run.{moment}
+use Rattle.link_model.specs.Sends.{frames_before, observed, order_of}
 use Rattle.link_run.specs.Clocked.{Clocking, HasRunTo}
 use Rattle.link_run.specs.Seen.{Fed, HasFed, HasSynced}
 use Rattle.link_run.specs.Sendings.{HasObserved, next_of}
-use Rattle.link_run.specs.Histories.{observed_before}
 
 -- its clock, SYNC~ as it will see it, where it stands, and the frame that began last
 pub record TxEnd : Type 0 where
@@ -23,10 +22,6 @@ pub record TxEnd : Type 0 where
   pub sync : List Bool
   pub sending : Sending
   pub feed : Fed
-
--- the levels of SYNC~ after each tick: true where it is low
-abbrev pub levels_after : History → List Bool
-levels_after h = map (λ m. is_hunting m.stage) h
 
 -- the ticks of this history are over
 pub record HasSentRun (now : TxEnd) (s : Plan) (h : History) : Type 0 where
@@ -45,30 +40,20 @@ pub record HasSentTick (now : TxEnd) (s : Plan) (h : History) : Type 0 where
   pub feed : HasFed now.feed s (frames_before (h ++ moment lanes_b s h ∷ []))
 
 -- a transmitter's next order, and where it stands with it
-pub record Observes (order : TxOrder) (old now : Sending) (s : Plan) (h : History) (reset : Bool) : Type 0 where
+pub record Observes (order : TxOrder) (old now : Sending) (s : Plan) (h : History)
+    (reset : Bool) : Type 0 where
   pub order_due : order ≡ order_of s h
   pub after : HasObserved now s.link.params (observed s h)
   pub follows : Follows s.link.params (if reset then None else next_of s.link.params old) order
   pub next : next_of s.link.params now ≡ next_place s.link.params order
-
--- the orders of 8b/10b lanes
-abbrev pub IsOrderB : TxOrder → Type 0
-IsOrderB Comma = Unit {0}
-IsOrderB (Ilas x) = Unit {0}
-IsOrderB (Data x first) = Unit {0}
-IsOrderB Silent = ⊥
-IsOrderB (Block x first) = ⊥
-
--- the place in its frame of the octets that go with an order, where it is data
-abbrev pub frame_place : Params → TxOrder → Option ℕ
-frame_place p order = option_map (λ x. x % p.f) (data_place order)
 
 abbrev pub is_start : Option ℕ → Bool
 is_start None = false
 is_start (Some at) = at == 0
 
 -- what a transmitter says of the tick after this history, and what it keeps
-pub record IsSentTick (tick : TxTick) (old now : TxEnd) (s : Plan) (h : History) (reset : Bool) : Type 0 where
+pub record IsSentTick (tick : TxTick) (old now : TxEnd) (s : Plan) (h : History)
+    (reset : Bool) : Type 0 where
   pub off : tick.off ≡ off s Tx (length h)
   pub observes : Observes tick.order old.sending now.sending s h reset
   pub at : tick.at ≡ frame_place s.link.params tick.order

@@ -4,7 +4,8 @@ ghost use Rattle.link_params.specs.declared.fields.Params.{Params as ParamsValue
 ghost use Rattle.link_params.specs.declared.cells.LaneCell.{LaneCell as CellValue};
 ghost use Rattle.link_params.specs.declared.cells.Mark.TheVariants as mark;
 ghost use Rattle.sample_map.specs.Frames.{words_of};
-ghost use Rattle.link_run.specs.Gathered.{Columns, HasGathered, IsPutting, cells_of, octets_of, whole_mark};
+ghost use Rattle.link_model.specs.Before.{Columns, cells_of, octets_of, whole_mark};
+ghost use Rattle.link_run.specs.Gathered.{HasGathered, IsPutting};
 
 use jesd_base::NoMemory;
 use link_params::{LaneCell, Mark, Shape};
@@ -12,8 +13,9 @@ use sample_map::{Layout, layout_laws};
 use std::alloc::Global;
 use std::marker::Model;
 
-/// A frame that is gathered octet by octet from all lanes. Contracts see it as its parameters, how many octets of each lane are there, the
-/// worst of their marks, the octets, and the words of the last whole frame.
+/// A frame that is gathered octet by octet from all lanes. Contracts see it as its parameters, how
+/// many octets of each lane are there, the worst of their marks, the octets, and the words of the
+/// last whole frame.
 #[derive(Drop)]
 pub struct Deframer {
     shape: Shape,
@@ -29,13 +31,21 @@ impl Model for Deframer {
 
     ghost Value = { Gathering };
 
-    ghost view = { λ d. record { params = d.shape; at = d.at; mark = d.mark; octets = d.octets.items; words = d.words.items } };
+    ghost view = { λ d. record {
+      params = d.shape;
+      at = d.at;
+      mark = d.mark;
+      octets = d.octets.items;
+      words =
+          d.words.items;
+    } };
 
     ghost invariant = { λ d. HasSizes d.shape d.layout d.at d.octets.items d.words.items };
 }
 
 impl Deframer {
-    /// A frame of which nothing is there. All its memory is taken here; `NoMemory` where there is none.
+    /// A frame of which nothing is there. All its memory is taken here; `NoMemory` where there is
+    /// none.
     pub fn open(alloc: Global, shape: &Shape) -> Result<Deframer, NoMemory>
         ensures { IfOk result (λ d. HasGathered d shape.now []) }
     {
@@ -57,7 +67,8 @@ impl Deframer {
 
     /// A hunt begins: what is there is dropped.
     pub fn clear(&mut self)
-        ensures { (p : ParamsValue) (columns : Columns) → HasGathered self.old p columns → HasGathered self.new p [] }
+        ensures { (p : ParamsValue) (columns : Columns) → HasGathered self.old p columns
+            → HasGathered self.new p [] }
     {
         self.begin();
     }
@@ -70,15 +81,20 @@ impl Deframer {
         self.mark = Mark::Ok;
     }
 
-    /// What each lane gave in a tick: an octet of data each, or nothing. The mark of the frame that is whole with it.
+    /// What each lane gave in a tick: an octet of data each, or nothing. The mark of the frame that
+    /// is whole with it.
     pub fn take(&mut self, given: &[Option<LaneCell>]) -> Option<Mark>
         requires { length given.now ≡ self.old.params.l }
-        ensures nothing { (lanes : List CellValue) → given.now ≡ map (λ c. None) lanes → (result ≡ None) × (self.new ≡ self.old) }
-        ensures mark { (p : ParamsValue) (columns : Columns) (column : List CellValue) → HasGathered self.old p columns → given.now ≡ map (λ c. Some c) column
+        ensures nothing { (lanes : List CellValue) → given.now ≡ map (λ c. None) lanes
+            → (result ≡ None) × (self.new ≡ self.old) }
+        ensures mark { (p : ParamsValue) (columns : Columns) (column : List CellValue)
+            → HasGathered self.old p columns → given.now ≡ map (λ c. Some c) column
             → result ≡ whole_mark p (columns ++ column ∷ []) }
-        ensures words { (p : ParamsValue) (columns : Columns) (column : List CellValue) → HasGathered self.old p columns → given.now ≡ map (λ c. Some c) column
+        ensures words { (p : ParamsValue) (columns : Columns) (column : List CellValue)
+            → HasGathered self.old p columns → given.now ≡ map (λ c. Some c) column
             → IfSome result (λ m. self.new.words ≡ words_of p (octets_of (cells_of p (columns ++ column ∷ []) (length (columns ++ column ∷ []) / p.f - 1) p.f))) }
-        ensures goes_on { (p : ParamsValue) (columns : Columns) (column : List CellValue) → HasGathered self.old p columns → given.now ≡ map (λ c. Some c) column
+        ensures goes_on { (p : ParamsValue) (columns : Columns) (column : List CellValue)
+            → HasGathered self.old p columns → given.now ≡ map (λ c. Some c) column
             → HasGathered self.new p (columns ++ column ∷ []) }
     {
         let size = self.shape.params().f;

@@ -3,15 +3,17 @@ ghost use Rattle.std.specs.Prelude.{◌≡◌, ◌≤◌, ◌<◌, ◌+◌, ◌*
 ghost use Rattle.sysref_clock.specs.Ticks.{HasTicked};
 ghost use Rattle.scenario.specs.Limits.{jitter_fits};
 ghost use Rattle.scenario.specs.Plans.{Plan};
-ghost use Rattle.link_run.specs.Edges.{edge_tick, is_device, is_reset, jitter, off, phase, skew};
-ghost use Rattle.link_run.specs.Clocked.{HasRunTo, IsNear, IsPaced};
+ghost use Rattle.link_model.specs.Edges.{edge_tick, is_device, is_reset, jitter, off, phase, skew};
+ghost use Rattle.link_run.specs.Clocked.{HasRunTo};
+ghost use Rattle.link_model.specs.Before.{IsNear, IsPaced};
 
 use link_params::{Device, Link, Timing};
 use scenario::Jitter;
 use std::marker::Model;
 use sysref_clock::{ClockTick, LocalClock, capture_tick};
 
-/// A device's clock and the SYSREF edges that it will capture. Contracts see it as its link, its device, the next edge and the clock.
+/// A device's clock and the SYSREF edges that it will capture. Contracts see it as its link, its
+/// device, the next edge and the clock.
 #[derive(Drop)]
 pub struct DeviceClock {
     link: Link,
@@ -23,11 +25,19 @@ pub struct DeviceClock {
 }
 
 impl Model for DeviceClock {
-    ghost use Rattle.link_run.specs.Clocked.{Clocking, IsNear, IsPaced};
+    ghost use Rattle.link_run.specs.Clocked.{Clocking};
+    ghost use Rattle.link_model.specs.Before.{IsNear, IsPaced};
 
     ghost Value = { Clocking };
 
-    ghost view = { λ c. record { link = c.link; device = c.device; next = c.next; tick = c.tick; clock = c.clock } };
+    ghost view = { λ c. record {
+      link = c.link;
+      device = c.device;
+      next = c.next;
+      tick = c.tick;
+      clock =
+          c.clock;
+    } };
 
     ghost invariant = { λ c. IsPaced c.link × IsNear c.link c.next c.tick };
 }
@@ -37,7 +47,8 @@ impl DeviceClock {
     pub fn new(link: &Link, jitters: &[Jitter], device: Device) -> DeviceClock
         requires { All (λ j. IsTrue (jitter_fits j)) jitters.now }
         ensures device { result.device ≡ device }
-        ensures begins { (s : Plan) → s.link ≡ link.now → s.jitters ≡ jitters.now → HasRunTo result s 0 }
+        ensures begins { (s : Plan) → s.link ≡ link.now → s.jitters ≡ jitters.now
+            → HasRunTo result s 0 }
     {
         let period = link.shape().period();
         let _timing = link.timing();
@@ -50,13 +61,16 @@ impl DeviceClock {
         }
     }
 
-    /// The phase of the clock in tick `t`, and that of an edge which comes off a boundary. `reset`: the device is reset in this tick.
+    /// The phase of the clock in tick `t`, and that of an edge which comes off a boundary. `reset`:
+    /// the device is reset in this tick.
     pub fn tick(&mut self, jitters: &[Jitter], t: u32, reset: bool) -> ClockTick
         requires tick { t < 1048576 }
         requires jitters { All (λ j. IsTrue (jitter_fits j)) jitters.now }
-        ensures answer { (s : Plan) → HasRunTo self.old s t → s.jitters ≡ jitters.now → reset ≡ is_reset s self.old.device t
+        ensures answer { (s : Plan) → HasRunTo self.old s t → s.jitters ≡ jitters.now
+            → reset ≡ is_reset s self.old.device t
             → result ≡ record { phase = phase s self.old.device t; off = off s self.old.device t } }
-        ensures goes_on { (s : Plan) → HasRunTo self.old s t → s.jitters ≡ jitters.now → reset ≡ is_reset s self.old.device t
+        ensures goes_on { (s : Plan) → HasRunTo self.old s t → s.jitters ≡ jitters.now
+            → reset ≡ is_reset s self.old.device t
             → HasRunTo self.new s (t + 1) }
         ensures same { self.new.device ≡ self.old.device }
     {
@@ -80,13 +94,15 @@ fn clear_if(clock: &mut LocalClock, reset: bool)
     }
 }
 
-// The tick in which a device captures the SYSREF edge after this one, which it captures in tick `t`.
+// The tick in which a device captures the SYSREF edge after this one, which it captures in tick
+// `t`.
 fn tick_after(link: &Link, jitters: &[Jitter], device: Device, edge: u32, t: u32) -> u32
     requires tick { t < 1048576 }
     requires paced { IsPaced link.now }
     requires near { IsNear link.now edge t }
     requires jitters { All (λ j. IsTrue (jitter_fits j)) jitters.now }
-    ensures tick { (s : Plan) → s.link ≡ link.now → s.jitters ≡ jitters.now → result ≡ edge_tick s device (edge + 1) }
+    ensures tick { (s : Plan) → s.link ≡ link.now → s.jitters ≡ jitters.now
+        → result ≡ edge_tick s device (edge + 1) }
     ensures near { IsNear link.now (edge + 1) result }
     ensures edge { edge < 2 ^ 21 }
 {
@@ -98,7 +114,8 @@ fn tick_of(link: &Link, jitters: &[Jitter], device: Device, edge: u32) -> u32
     requires paced { IsPaced link.now }
     requires place { link.now.timing.sysref_start + edge * link.now.timing.sysref_period ≤ 2 ^ 21 }
     requires jitters { All (λ j. IsTrue (jitter_fits j)) jitters.now }
-    ensures tick { (s : Plan) → s.link ≡ link.now → s.jitters ≡ jitters.now → result ≡ edge_tick s device edge }
+    ensures tick { (s : Plan) → s.link ≡ link.now → s.jitters ≡ jitters.now
+        → result ≡ edge_tick s device edge }
     ensures near { IsNear link.now edge result }
 {
     let timing = link.timing();

@@ -10,8 +10,8 @@ use scenario::{Scenario, source_frame};
 use std::alloc::Global;
 use std::marker::Model;
 
-/// The source frame that began last. Contracts see it as its parameters, how many frames began, and that frame's words and
-/// octets.
+/// The source frame that began last. Contracts see it as its parameters, how many frames began, and
+/// that frame's words and octets.
 #[derive(Drop)]
 pub struct Feed {
     layout: Layout,
@@ -28,13 +28,21 @@ impl Model for Feed {
 
     ghost Value = { Fed };
 
-    ghost view = { λ f. record { params = f.layout; begun = f.begun; words = f.words.items; octets = f.octets.items } };
+    ghost view = { λ f. record {
+      params = f.layout;
+      begun = f.begun;
+      words = f.words.items;
+      octets =
+          f.octets.items;
+    } };
 
-    ghost invariant = { λ f. (f.size ≡ f.layout.f) × (length f.words.items ≡ f.layout.m * f.layout.s) × (length f.octets.items ≡ f.layout.l * f.layout.f) };
+    ghost invariant = { λ f. (f.size ≡ f.layout.f) × (length f.words.items ≡ f.layout.m * f.layout.s)
+        × (length f.octets.items ≡ f.layout.l * f.layout.f) };
 }
 
 impl Feed {
-    /// A feed from which no frame has begun. All its memory is taken here; `NoMemory` where there is none.
+    /// A feed from which no frame has begun. All its memory is taken here; `NoMemory` where there
+    /// is none.
     pub fn open(alloc: Global, s: &Scenario) -> Result<Feed, NoMemory>
         ensures { (plan : Plan) → plan_of s.now ≡ Some plan → IfOk result (λ f. HasFed f plan 0) }
     {
@@ -61,7 +69,8 @@ impl Feed {
         requires shape { s.now.shape ≡ self.old.params }
         ensures same { self.new.params ≡ self.old.params }
         ensures count { self.new.begun ≡ self.old.begun + 1 }
-        ensures fed { (plan : Plan) (n : ℕ) → plan_of s.now ≡ Some plan → HasFed self.old plan n → HasFed self.new plan (n + 1) }
+        ensures fed { (plan : Plan) (n : ℕ) → plan_of s.now ≡ Some plan → HasFed self.old plan n
+            → HasFed self.new plan (n + 1) }
     {
         self.lay_out(s, self.begun);
         self.begun += 1;
@@ -82,18 +91,22 @@ impl Feed {
     pub fn words(&self) -> &[u32]
         ensures words { result.now ≡ self.now.words }
         ensures size { length result.now ≡ self.now.params.m * self.now.params.s }
-        ensures fed { (plan : Plan) (n : ℕ) → HasFed self.now plan n → result.now ≡ source_frame plan (n - 1) }
+        ensures fed { (plan : Plan) (n : ℕ) → HasFed self.now plan n
+            → result.now ≡ source_frame plan (n - 1) }
     {
         &self.words
     }
 
-    // Writes the words and the octets of a source frame. A scenario with no link has none, and nothing is written.
+    // Writes the words and the octets of a source frame. A scenario with no link has none, and
+    // nothing is written.
     fn lay_out(&mut self, s: &Scenario, number: u32)
         requires { s.now.shape ≡ self.old.params }
         ensures same { self.new.params ≡ self.old.params }
         ensures count { self.new.begun ≡ self.old.begun }
-        ensures words { (plan : Plan) → plan_of s.now ≡ Some plan → self.new.words ≡ source_frame plan number }
-        ensures octets { (plan : Plan) → plan_of s.now ≡ Some plan → self.new.octets ≡ frame_of plan.link.params (source_frame plan number) }
+        ensures words { (plan : Plan) → plan_of s.now ≡ Some plan
+            → self.new.words ≡ source_frame plan number }
+        ensures octets { (plan : Plan) → plan_of s.now ≡ Some plan
+            → self.new.octets ≡ frame_of plan.link.params (source_frame plan number) }
     {
         if s.link.is_none() {
             return;

@@ -4,7 +4,7 @@ ghost use Rattle.std.specs.List.Sorted.{IsStrictlyIncreasing};
 ghost use Rattle.jesd_base.specs.Bits.{add};
 ghost use Rattle.line_model.specs.LineBits.{is_flipped};
 ghost use Rattle.scenario.specs.Plans.{Plan};
-ghost use Rattle.link_run.specs.Carried.{inverted_bits};
+ghost use Rattle.link_model.specs.Carried.{inverted_bits};
 
 use jesd_base::NoMemory;
 use scenario::Flip;
@@ -14,7 +14,9 @@ use std::alloc::Global;
 pub fn inverted_bits(alloc: Global, flips: &[Flip], lane: u32) -> Result<Vec<u64>, NoMemory>
     requires { All (λ f. f.first + f.count ≤ 2 ^ 60) flips.now }
     ensures ascending { IfOk result (λ v. IsStrictlyIncreasing v.items) }
-    ensures inverted { (s : Plan) (n : ℕ) → s.flips ≡ flips.now → All (λ f. f.first + f.count ≤ n) flips.now → IfOk result (λ v. v.items ≡ inverted_bits s lane n) }
+    ensures inverted { (s : Plan) (n : ℕ) → s.flips ≡ flips.now
+        → All (λ f. f.first + f.count ≤ n) flips.now
+        → IfOk result (λ v. v.items ≡ inverted_bits s lane n) }
 {
     let mut bits = Vec::new(alloc);
     for flip in flips {
@@ -43,7 +45,8 @@ fn invert(bits: &mut Vec<u64>, flip: &Flip) -> Result<(), NoMemory>
 fn toggle(bits: &mut Vec<u64>, bit: u64) -> Result<(), NoMemory>
     requires { IsStrictlyIncreasing bits.old.items }
     ensures ascending { OnOk result (IsStrictlyIncreasing bits.new.items) }
-    ensures members { OnOk result ((i : ℕ) → is_flipped bits.new.items i ≡ add (bit == i) (is_flipped bits.old.items i)) }
+    ensures members { OnOk result ((i : ℕ)
+        → is_flipped bits.new.items i ≡ add (bit == i) (is_flipped bits.old.items i)) }
 {
     match bits.binary_search(&bit) {
         Ok(at) => {

@@ -7,8 +7,9 @@ ghost use Rattle.lane_b.specs.Received.{entries_b, report_b};
 ghost use Rattle.lane_b.specs.Gives.{given};
 ghost use Rattle.lane_b.specs.Senders.{Follows, next_place};
 ghost use Rattle.scenario.specs.Plans.{Plan};
-ghost use Rattle.link_run.specs.Carried.{inverted_bits};
-ghost use Rattle.link_run.specs.LaneRuns.{HasRunLane, LaneRun, no_run, stepped};
+ghost use Rattle.link_model.specs.Carried.{inverted_bits};
+ghost use Rattle.link_run.specs.LaneRuns.{HasRunLane};
+ghost use Rattle.link_model.specs.LaneRuns.{LaneRun, no_run, stepped};
 
 use jesd_base::NoMemory;
 use lane_b::{RxLaneB, TxLaneB};
@@ -37,8 +38,8 @@ impl Model for LanePair {
 }
 
 impl LanePair {
-    /// A lane before the first tick of a run. `flips` are the received bits that are inverted, ascending. All memory that the lane needs is
-    /// taken here; `NoMemory` where there is none.
+    /// A lane before the first tick of a run. `flips` are the received bits that are inverted,
+    /// ascending. All memory that the lane needs is taken here; `NoMemory` where there is none.
     pub fn open(
         alloc: Global,
         link: &Link,
@@ -48,7 +49,8 @@ impl LanePair {
         requires mode { link.now.params.mode ≡ B }
         requires lane { lane < link.now.params.l }
         requires ascending { IsStrictlyIncreasing flips.items }
-        ensures begins { (s : Plan) → s.link ≡ link.now → flips.items ≡ inverted_bits s lane (10 * s.ticks)
+        ensures begins { (s : Plan) → s.link ≡ link.now
+            → flips.items ≡ inverted_bits s lane (10 * s.ticks)
             → IfOk result (λ x. HasRunLane x s lane (no_run s)) }
         ensures next { IfOk result (λ x. (x.tx.params ≡ link.now.params) × (x.tx.next ≡ None)) }
     {
@@ -67,7 +69,8 @@ impl LanePair {
     /// A tick: the order and the octet of the transmitter end, and the order of the receiver end.
     pub fn step(&mut self, order: TxOrder, octet: u8, told: &RxOrder)
         requires follows { Follows self.old.tx.params self.old.tx.next order }
-        requires room { told.now.hunt ≡ false → length self.old.rx.buffer.cells < self.old.rx.buffer.depth }
+        requires room { told.now.hunt ≡ false
+            → length self.old.rx.buffer.cells < self.old.rx.buffer.depth }
         ensures goes_on { (s : Plan) (lane : ℕ) (x : LaneRun) → HasRunLane self.old s lane x
             → HasRunLane self.new s lane (stepped s lane x order octet told.now) }
         ensures next { self.new.tx.next ≡ next_place self.old.tx.params order }
@@ -81,7 +84,8 @@ impl LanePair {
 
     /// The report of the receiver end.
     pub fn report(&self) -> LaneReport
-        ensures { (s : Plan) (lane : ℕ) (x : LaneRun) → HasRunLane self.now s lane x → result ≡ report_b s.link.params s.link.timing lane x.taken }
+        ensures { (s : Plan) (lane : ℕ) (x : LaneRun) → HasRunLane self.now s lane x
+            → result ≡ report_b s.link.params s.link.timing lane x.taken }
     {
         self.rx.report()
     }
@@ -111,7 +115,8 @@ impl LanePair {
 
     /// A reset of the transmitter.
     pub fn clear_tx(&mut self)
-        ensures goes_on { (s : Plan) (lane : ℕ) (x : LaneRun) → HasRunLane self.old s lane x → HasRunLane self.new s lane (record x { handed = [] }) }
+        ensures goes_on { (s : Plan) (lane : ℕ) (x : LaneRun) → HasRunLane self.old s lane x
+            → HasRunLane self.new s lane (record x { handed = [] }) }
         ensures next { self.new.tx.next ≡ None }
         ensures same { self.new.tx.params ≡ self.old.tx.params }
         ensures buffer { self.new.rx.buffer ≡ self.old.rx.buffer }
@@ -122,7 +127,8 @@ impl LanePair {
     /// From this tick on the line delays by so many bits.
     pub fn set_delay(&mut self, bits: u32)
         requires { bits ≤ self.old.line.set.reach }
-        ensures goes_on { (s : Plan) (lane : ℕ) (x : LaneRun) → HasRunLane self.old s lane x → HasRunLane self.new s lane (record x { delay = bits }) }
+        ensures goes_on { (s : Plan) (lane : ℕ) (x : LaneRun) → HasRunLane self.old s lane x
+            → HasRunLane self.new s lane (record x { delay = bits }) }
         ensures tx { self.new.tx ≡ self.old.tx }
         ensures rx { self.new.rx ≡ self.old.rx }
     {
@@ -131,7 +137,8 @@ impl LanePair {
 
     /// From this tick on the line is dead, or alive.
     pub fn set_dead(&mut self, dead: bool)
-        ensures goes_on { (s : Plan) (lane : ℕ) (x : LaneRun) → HasRunLane self.old s lane x → HasRunLane self.new s lane (record x { dead = dead }) }
+        ensures goes_on { (s : Plan) (lane : ℕ) (x : LaneRun) → HasRunLane self.old s lane x
+            → HasRunLane self.new s lane (record x { dead = dead }) }
         ensures tx { self.new.tx ≡ self.old.tx }
         ensures rx { self.new.rx ≡ self.old.rx }
     {

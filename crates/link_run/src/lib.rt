@@ -1,4 +1,5 @@
-//! The run of a scenario: both ends of a link with 8b/10b lanes, the lines between them, and the report.
+//! The run of a scenario: both ends of a link with 8b/10b lanes, the lines between them, and the
+//! report.
 //!
 //! ```text
 //! let Ran { text, totals } = run(alloc, &scenario)?;

@@ -1,18 +1,20 @@
 //! The receiver of a run.
-ghost use Rattle.std.specs.Prelude.{◌≡◌, ◌<◌, ◌≤◌, ◌+◌, ◌-◌, ◌*◌, ◌%◌, ◌^◌, ◌++◌, ◌∷◌, ◌||◌, [], ℕ, List, None, Some, length, is_some, IsTrue, IfOk, if◌then◌else◌};
-ghost use Rattle.std.specs.List.{All};
+ghost use Rattle.std.specs.Prelude.{◌≡◌, ◌<◌, ◌≤◌, ◌+◌, ◌-◌, ◌*◌, ◌%◌, ◌^◌, ◌++◌, ◌∷◌, ◌||◌, [], List, None, Some, length, is_some, IsTrue, IfOk, if◌then◌else◌};
 ghost use Rattle.link_params.specs.declared.fields.Mode.TheVariants.{B};
 ghost use Rattle.link_params.specs.declared.fields.Params.{Params as ParamsValue};
 ghost use Rattle.link_params.specs.declared.fields.Timing.{Timing as TimingValue};
 ghost use Rattle.link_params.specs.declared.lane_report.LaneReport.{LaneReport as ReportValue};
 ghost use Rattle.link_params.specs.declared.alarms.Device.TheVariants.{Rx as RxDevice};
-ghost use Rattle.bring_up.specs.Controls.{Controller, HasDecided};
+ghost use Rattle.bring_up.specs.Controls.{HasDecided};
 ghost use Rattle.scenario.specs.Plans.{Plan, plan_of};
-ghost use Rattle.link_run.specs.Edges.{is_reset};
+ghost use Rattle.link_model.specs.Edges.{is_reset};
 ghost use Rattle.lane_b.specs.Received.{lanes_b};
-ghost use Rattle.link_run.specs.Run.{History, is_at, is_hunt, moment, offset_at, run};
+ghost use Rattle.link_model.specs.Moments.{History};
+ghost use Rattle.link_model.specs.Run.{is_at, moment, run};
+ghost use Rattle.link_model.specs.Hunts.{is_hunt};
+ghost use Rattle.link_model.specs.Receives.{offset_at};
 ghost use Rattle.link_run.specs.LaneRuns.{HaveRun};
-ghost use Rattle.link_run.specs.Histories.{lane_stepped};
+ghost use Rattle.link_model.specs.LaneRuns.{lane_stepped};
 ghost use Rattle.link_run.specs.ReceiverRuns.{Decides, HasReceivedRun, HasToldTick, IsEnded, IsToldTick};
 
 use crate::device_clock::DeviceClock;
@@ -41,14 +43,22 @@ impl Model for Receiver {
 
     ghost Value = { RxEnd };
 
-    ghost view = { λ r. record { clock = r.clock; control = r.control; hunts = r.hunts; reports = r.reports.items; alarms = r.alarms } };
+    ghost view = { λ r. record {
+      clock = r.clock;
+      control = r.control;
+      hunts = r.hunts;
+      reports =
+          r.reports.items;
+      alarms = r.alarms;
+    } };
 }
 
 impl Receiver {
     /// The receiver of this link before the first tick. `NoMemory` where there is too little of it.
     pub fn open(alloc: Global, s: &Scenario, link: &Link) -> Result<Receiver, NoMemory>
         requires mode { link.now.params.mode ≡ B }
-        ensures begins { (plan : Plan) → plan_of s.now ≡ Some plan → plan.link ≡ link.now → IfOk result (λ r. HasReceivedRun r plan []) }
+        ensures begins { (plan : Plan) → plan_of s.now ≡ Some plan → plan.link ≡ link.now
+            → IfOk result (λ r. HasReceivedRun r plan []) }
     {
         let idle = LaneReport {
             locked: false,
@@ -71,7 +81,8 @@ impl Receiver {
     /// The beginning of tick `t`; `reset`: the receiver is reset in it.
     pub fn tell(&mut self, s: &Scenario, link: &Link, t: u32, reset: bool) -> RxTick
         requires tick { t < 1048576 }
-        ensures { (plan : Plan) (h : History) → plan_of s.now ≡ Some plan → plan.link ≡ link.now → HasReceivedRun self.old plan h → t ≡ length h
+        ensures { (plan : Plan) (h : History) → plan_of s.now ≡ Some plan → plan.link ≡ link.now
+            → HasReceivedRun self.old plan h → t ≡ length h
             → reset ≡ is_reset plan RxDevice t → IsToldTick result self.new plan h }
     {
         reset_if(&mut self.control, reset);
@@ -88,12 +99,16 @@ impl Receiver {
         }
     }
 
-    /// The end of tick `t`: where it is a release point the receiver decides, on the reports of the lanes. The alarms of the decision are kept.
+    /// The end of tick `t`: where it is a release point the receiver decides, on the reports of the
+    /// lanes. The alarms of the decision are kept.
     pub fn end(&mut self, s: &Scenario, t: u32, lanes: &Lanes, decides: bool) -> Decision
         requires link { IsTrue (is_some s.now.link) }
-        requires told { (plan : Plan) → plan_of s.now ≡ Some plan → HasToldTick self.old plan (run lanes_b plan t) }
-        requires lanes { (plan : Plan) → plan_of s.now ≡ Some plan → HaveRun lanes.now plan (lane_stepped plan (run lanes_b plan t)) }
-        ensures { (plan : Plan) → plan_of s.now ≡ Some plan → decides ≡ (moment lanes_b plan (run lanes_b plan t)).decides
+        requires told { (plan : Plan) → plan_of s.now ≡ Some plan
+            → HasToldTick self.old plan (run lanes_b plan t) }
+        requires lanes { (plan : Plan) → plan_of s.now ≡ Some plan
+            → HaveRun lanes.now plan (lane_stepped plan (run lanes_b plan t)) }
+        ensures { (plan : Plan) → plan_of s.now ≡ Some plan
+            → decides ≡ (moment lanes_b plan (run lanes_b plan t)).decides
             → IsEnded result self.new plan (run lanes_b plan t) }
     {
         if !decides {
@@ -108,9 +123,12 @@ impl Receiver {
 
     fn decide(&mut self, s: &Scenario, t: u32, lanes: &Lanes) -> Decision
         requires link { IsTrue (is_some s.now.link) }
-        requires told { (plan : Plan) → plan_of s.now ≡ Some plan → HasToldTick self.old plan (run lanes_b plan t) }
-        requires lanes { (plan : Plan) → plan_of s.now ≡ Some plan → HaveRun lanes.now plan (lane_stepped plan (run lanes_b plan t)) }
-        ensures { (plan : Plan) → plan_of s.now ≡ Some plan → Decides result self.old self.new plan (run lanes_b plan t) }
+        requires told { (plan : Plan) → plan_of s.now ≡ Some plan
+            → HasToldTick self.old plan (run lanes_b plan t) }
+        requires lanes { (plan : Plan) → plan_of s.now ≡ Some plan
+            → HaveRun lanes.now plan (lane_stepped plan (run lanes_b plan t)) }
+        ensures { (plan : Plan) → plan_of s.now ≡ Some plan
+            → Decides result self.old self.new plan (run lanes_b plan t) }
     {
         lanes.report(&mut self.reports);
         self.alarms.clear();
@@ -129,7 +147,9 @@ impl Receiver {
 
     /// The stage after the last tick.
     pub fn stage(&self) -> Stage
-        ensures { (plan : Plan) (h : History) → HasReceivedRun self.now plan (h ++ moment lanes_b plan h ∷ []) → result ≡ (moment lanes_b plan h).stage }
+        ensures { (plan : Plan) (h : History)
+            → HasReceivedRun self.now plan (h ++ moment lanes_b plan h ∷ [])
+            → result ≡ (moment lanes_b plan h).stage }
     {
         self.control.stage()
     }
@@ -146,7 +166,8 @@ fn is_hunt(decision: Decision) -> bool
 }
 
 fn reset_if(control: &mut Control, reset: bool)
-    ensures { (p : ParamsValue) (t : TimingValue) (before : List (List ReportValue)) → HasDecided control.old p t before
+    ensures { (p : ParamsValue) (t : TimingValue) (before : List (List ReportValue))
+        → HasDecided control.old p t before
         → HasDecided control.new p t (if reset then [] else before) }
 {
     if reset {
@@ -176,7 +197,8 @@ fn offset_of(link: &Link, phase: Option<u32>) -> u32
     }
 }
 
-// How far a tick is from another one, modulo the period; so many periods and one more are added first.
+// How far a tick is from another one, modulo the period; so many periods and one more are added
+// first.
 fn offset_at(later: u64, earlier: u64, wait: u64, period: u64) -> u32
     requires small { later < 2 ^ 40 }
     requires wait { wait ≤ 64 }

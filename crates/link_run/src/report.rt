@@ -1,9 +1,8 @@
 //! The report of a run, row by row.
-ghost use Rattle.std.specs.Prelude.{◌≡◌, ◌≤◌, ◌<◌, ◌+◌, ◌*◌, ◌++◌, ◌∷◌, [], ℕ, List, length, if◌then◌else◌, Some, IfOk, OnOk};
-ghost use Rattle.link_params.specs.declared.alarms.Alarm.{Alarm as AlarmValue};
+ghost use Rattle.std.specs.Prelude.{◌≡◌, ◌≤◌, ◌<◌, ◌+◌, ◌*◌, ◌++◌, ◌∷◌, [], List, length, if◌then◌else◌, Some, IfOk, OnOk};
 ghost use Rattle.scenario.specs.declared.report_row.Row.TheVariants as row;
 ghost use Rattle.scenario.specs.Plans.{Plan, plan_of};
-ghost use Rattle.link_run.specs.Report.{Printed, bare, is_bad, is_fixed, is_ok, prints_all, prints_frames};
+ghost use Rattle.link_model.specs.Report.{Printed, bare, prints_all, prints_frames};
 ghost use Rattle.link_run.specs.Printing.{HasPrinted, counted_mark};
 
 use jesd_base::NoMemory;
@@ -12,7 +11,8 @@ use scenario::{LineText, Print, Row, Scenario, Totals};
 use std::alloc::Global;
 use std::marker::Model;
 
-/// The text of the rows so far, and the counts. Contracts see it as the text, the room of a line, and the counts.
+/// The text of the rows so far, and the counts. Contracts see it as the text, the room of a line,
+/// and the counts.
 #[derive(Drop)]
 pub struct Report {
     text: Vec<u8>,
@@ -29,11 +29,24 @@ impl Model for Report {
 }
 
 impl Report {
-    /// A report without rows, for frames of this scenario; `NoMemory` where there is none for a line.
+    /// A report without rows, for frames of this scenario; `NoMemory` where there is none for a
+    /// line.
     pub fn open(alloc: Global, s: &Scenario) -> Result<Report, NoMemory>
-        ensures begins { (plan : Plan) → plan_of s.now ≡ Some plan → IfOk result (λ r. HasPrinted r plan []) }
+        ensures begins { (plan : Plan) → plan_of s.now ≡ Some plan
+            → IfOk result (λ r. HasPrinted r plan []) }
         ensures room { IfOk result (λ r. 128 ≤ r.room) }
-        ensures nothing { IfOk result (λ r. r.totals ≡ record { ticks = 0; entered = 0; delivered = 0; ok = 0; fixed = 0; bad = 0; alarms = 0; fullest = 0 }) }
+        ensures nothing { IfOk result
+            (λ r. r.totals ≡ record {
+              ticks = 0;
+              entered = 0;
+              delivered = 0;
+              ok = 0;
+              fixed =
+                  0;
+              bad = 0;
+              alarms = 0;
+              fullest = 0;
+            }) }
     {
         let line = LineText::open(alloc, 128 + 9 * s.shape.frame_words() as usize)?;
         Ok(Report {
@@ -55,7 +68,8 @@ impl Report {
     /// A row with its words; `NoMemory` where the text cannot grow, as for each row below.
     pub fn row(&mut self, s: &Scenario, row: &Row, words: &[u32]) -> Result<(), NoMemory>
         requires room { 128 + 9 * length words.now ≤ self.old.room }
-        ensures printed { (plan : Plan) (rows : List Printed) → plan_of s.now ≡ Some plan → HasPrinted self.old plan rows
+        ensures printed { (plan : Plan) (rows : List Printed) → plan_of s.now ≡ Some plan
+            → HasPrinted self.old plan rows
             → OnOk result (HasPrinted self.new plan (rows ++ (record { row = row.now; words = words.now }) ∷ [])) }
         ensures counts { self.new.totals ≡ self.old.totals }
         ensures room { self.old.room ≤ self.new.room }
@@ -71,7 +85,8 @@ impl Report {
     pub fn alarm(&mut self, s: &Scenario, t: u32, alarm: Alarm) -> Result<(), NoMemory>
         requires count { self.old.totals.alarms < 4294967295 }
         requires room { 128 ≤ self.old.room }
-        ensures printed { (plan : Plan) (rows : List Printed) → plan_of s.now ≡ Some plan → HasPrinted self.old plan rows
+        ensures printed { (plan : Plan) (rows : List Printed) → plan_of s.now ≡ Some plan
+            → HasPrinted self.old plan rows
             → OnOk result (HasPrinted self.new plan (rows ++ bare (row.Alarm t alarm) ∷ [])) }
         ensures counts { self.new.totals ≡ record self.old.totals { alarms = self.old.totals.alarms + 1 } }
         ensures room { self.old.room ≤ self.new.room }
@@ -84,7 +99,8 @@ impl Report {
     pub fn enter(&mut self, s: &Scenario, time: u32, words: &[u32]) -> Result<(), NoMemory>
         requires count { self.old.totals.entered < 4294967295 }
         requires room { 128 + 9 * length words.now ≤ self.old.room }
-        ensures printed { (plan : Plan) (rows : List Printed) → plan_of s.now ≡ Some plan → HasPrinted self.old plan rows
+        ensures printed { (plan : Plan) (rows : List Printed) → plan_of s.now ≡ Some plan
+            → HasPrinted self.old plan rows
             → OnOk result (HasPrinted self.new plan (rows ++ (if prints_all plan.print then (record { row = row.Enter time; words = words.now }) ∷ [] else []))) }
         ensures counts { self.new.totals ≡ record self.old.totals { entered = self.old.totals.entered + 1 } }
         ensures room { self.old.room ≤ self.new.room }
@@ -105,9 +121,11 @@ impl Report {
         words: &[u32],
     ) -> Result<(), NoMemory>
         requires count { self.old.totals.delivered < 4294967295 }
-        requires marks { (self.old.totals.ok < 4294967295) × (self.old.totals.fixed < 4294967295) × (self.old.totals.bad < 4294967295) }
+        requires marks { (self.old.totals.ok < 4294967295) × (self.old.totals.fixed < 4294967295)
+            × (self.old.totals.bad < 4294967295) }
         requires room { 128 + 9 * length words.now ≤ self.old.room }
-        ensures printed { (plan : Plan) (rows : List Printed) → plan_of s.now ≡ Some plan → HasPrinted self.old plan rows
+        ensures printed { (plan : Plan) (rows : List Printed) → plan_of s.now ≡ Some plan
+            → HasPrinted self.old plan rows
             → OnOk result (HasPrinted self.new plan (rows ++ (if prints_frames plan.print then (record { row = row.Frame time mark; words = words.now }) ∷ [] else []))) }
         ensures counts { self.new.totals ≡ counted_mark self.old.totals mark }
         ensures room { self.old.room ≤ self.new.room }
@@ -127,7 +145,11 @@ impl Report {
     /// A tick is over; `fullest` is the most entries that any lane has held so far.
     pub fn tick(&mut self, fullest: u32)
         requires { self.old.totals.ticks < 4294967295 }
-        ensures { self.new ≡ record self.old { totals = record self.old.totals { ticks = self.old.totals.ticks + 1; fullest = fullest } } }
+        ensures { self.new
+            ≡ record self.old {
+              totals =
+                  record self.old.totals { ticks = self.old.totals.ticks + 1; fullest = fullest };
+            } }
     {
         self.totals.ticks += 1;
         self.totals.fullest = fullest;

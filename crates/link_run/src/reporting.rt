@@ -5,10 +5,11 @@ ghost use Rattle.scenario.specs.declared.report_row.Row.TheVariants as row;
 ghost use Rattle.scenario.specs.Plans.{Plan, plan_of};
 ghost use Rattle.link_run.specs.LinkStates.{delivered_of};
 ghost use Rattle.link_run.specs.Printing.{HasPrinted, one_if};
-ghost use Rattle.link_run.specs.Report.{Printed, bares, decision_rows, frame_row, off_alarm, prints_all, prints_frames};
+ghost use Rattle.link_model.specs.Report.{Printed, bares, decision_rows, frame_row, off_alarm, prints_all, prints_frames};
 ghost use Rattle.link_run.specs.Reported.{AreFew, HasReported, IsSeen};
 ghost use Rattle.link_run.specs.TickCounts.{entry_rows, marks_of, with_alarms, with_marks};
-ghost use Rattle.link_run.specs.Run.{History, moment};
+ghost use Rattle.link_model.specs.Moments.{History};
+ghost use Rattle.link_model.specs.Run.{moment};
 
 use crate::report::Report;
 use crate::ticked::Ticked;
@@ -20,7 +21,8 @@ use scenario::{Row, Scenario};
 // A hunt, where the receiver was reset.
 fn add_reset(report: &mut Report, s: &Scenario, t: u32, reset: bool) -> Result<(), NoMemory>
     requires room { 128 ≤ report.old.room }
-    ensures printed { (plan : Plan) (rows : List Printed) → plan_of s.now ≡ Some plan → HasPrinted report.old plan rows
+    ensures printed { (plan : Plan) (rows : List Printed) → plan_of s.now ≡ Some plan
+        → HasPrinted report.old plan rows
         → OnOk result (HasPrinted report.new plan (rows ++ bares (if reset then row.Hunt t ∷ [] else []))) }
     ensures counts { report.new.totals ≡ report.old.totals }
     ensures room { report.old.room ≤ report.new.room }
@@ -42,9 +44,11 @@ fn add_off(
 ) -> Result<(), NoMemory>
     requires count { report.old.totals.alarms < 4294967295 }
     requires room { 128 ≤ report.old.room }
-    ensures printed { (plan : Plan) (rows : List Printed) → plan_of s.now ≡ Some plan → HasPrinted report.old plan rows
+    ensures printed { (plan : Plan) (rows : List Printed) → plan_of s.now ≡ Some plan
+        → HasPrinted report.old plan rows
         → OnOk result (HasPrinted report.new plan (rows ++ bares (map (row.Alarm t) (off_alarm device off)))) }
-    ensures counts { report.new.totals ≡ with_alarms report.old.totals (length (off_alarm device off)) }
+    ensures counts { report.new.totals ≡ with_alarms report.old.totals
+        (length (off_alarm device off)) }
     ensures few { length (off_alarm device off) ≤ 1 }
     ensures room { report.old.room ≤ report.new.room }
 {
@@ -64,9 +68,11 @@ fn add_entry(
 ) -> Result<(), NoMemory>
     requires count { report.old.totals.entered < 4294967295 }
     requires room { 128 + 9 * length entered.now ≤ report.old.room }
-    ensures printed { (plan : Plan) (rows : List Printed) → plan_of s.now ≡ Some plan → HasPrinted report.old plan rows
+    ensures printed { (plan : Plan) (rows : List Printed) → plan_of s.now ≡ Some plan
+        → HasPrinted report.old plan rows
         → OnOk result (HasPrinted report.new plan (rows ++ (if prints_all plan.print then entry_rows begins t entered.now else []))) }
-    ensures counts { report.new.totals ≡ record report.old.totals { entered = report.old.totals.entered + one_if begins } }
+    ensures counts { report.new.totals
+        ≡ record report.old.totals { entered = report.old.totals.entered + one_if begins } }
     ensures room { report.old.room ≤ report.new.room }
 {
     if begins {
@@ -80,7 +86,8 @@ fn add_entry(
 fn add_alarms(report: &mut Report, s: &Scenario, t: u32, alarms: &AlarmRow) -> Result<(), NoMemory>
     requires count { report.old.totals.alarms + length alarms.now < 4294967295 }
     requires room { 128 ≤ report.old.room }
-    ensures printed { (plan : Plan) (rows : List Printed) → plan_of s.now ≡ Some plan → HasPrinted report.old plan rows
+    ensures printed { (plan : Plan) (rows : List Printed) → plan_of s.now ≡ Some plan
+        → HasPrinted report.old plan rows
         → OnOk result (HasPrinted report.new plan (rows ++ bares (map (row.Alarm t) alarms.now))) }
     ensures counts { OnOk result (report.new.totals ≡ with_alarms report.old.totals (length alarms.now)) }
     ensures room { report.old.room ≤ report.new.room }
@@ -99,7 +106,8 @@ fn add_decision(
     decision: Decision,
 ) -> Result<(), NoMemory>
     requires room { 128 ≤ report.old.room }
-    ensures printed { (plan : Plan) (rows : List Printed) → plan_of s.now ≡ Some plan → HasPrinted report.old plan rows
+    ensures printed { (plan : Plan) (rows : List Printed) → plan_of s.now ≡ Some plan
+        → HasPrinted report.old plan rows
         → OnOk result (HasPrinted report.new plan (rows ++ bares (decision_rows t decision))) }
     ensures counts { report.new.totals ≡ report.old.totals }
     ensures room { report.old.room ≤ report.new.room }
@@ -121,9 +129,11 @@ fn add_frame(
     delivered: &[u32],
 ) -> Result<(), NoMemory>
     requires count { report.old.totals.delivered < 4294967295 }
-    requires marks { (report.old.totals.ok < 4294967295) × (report.old.totals.fixed < 4294967295) × (report.old.totals.bad < 4294967295) }
+    requires marks { (report.old.totals.ok < 4294967295) × (report.old.totals.fixed < 4294967295)
+        × (report.old.totals.bad < 4294967295) }
     requires room { 128 + 9 * length delivered.now ≤ report.old.room }
-    ensures printed { (plan : Plan) (rows : List Printed) → plan_of s.now ≡ Some plan → HasPrinted report.old plan rows
+    ensures printed { (plan : Plan) (rows : List Printed) → plan_of s.now ≡ Some plan
+        → HasPrinted report.old plan rows
         → OnOk result (HasPrinted report.new plan (rows ++ (if prints_frames plan.print then map frame_row (delivered_of mark left delivered.now) else []))) }
     ensures counts { report.new.totals ≡ with_marks report.old.totals (marks_of mark) }
     ensures room { report.old.room ≤ report.new.room }
@@ -134,8 +144,9 @@ fn add_frame(
     }
 }
 
-/// Adds the rows of tick `t`, in their order, and counts it: the hunt of a receiver's reset, edges off a boundary, the frame that began, the
-/// alarms of the decision, the decision, and the frame that left. `entered` and `delivered` are the words of these frames, M·S each.
+/// Adds the rows of tick `t`, in their order, and counts it: the hunt of a receiver's reset, edges
+/// off a boundary, the frame that began, the alarms of the decision, the decision, and the frame
+/// that left. `entered` and `delivered` are the words of these frames, M·S each.
 pub fn report_tick(
     report: &mut Report,
     s: &Scenario,
@@ -150,7 +161,8 @@ pub fn report_tick(
     requires alarms { length alarms.now ≤ 34 }
     requires entered { 128 + 9 * length entered.now ≤ report.old.room }
     requires delivered { 128 + 9 * length delivered.now ≤ report.old.room }
-    ensures reported { (plan : Plan) (h : History) → plan_of s.now ≡ Some plan → HasReported report.old plan h → t ≡ length h
+    ensures reported { (plan : Plan) (h : History) → plan_of s.now ≡ Some plan
+        → HasReported report.old plan h → t ≡ length h
         → IsSeen seen.now entered.now alarms.now delivered.now plan h → OnOk result (HasReported report.new plan (h ++ moment lanes_b plan h ∷ [])) }
     ensures few { OnOk result (AreFew report.new.totals (t + 1)) }
     ensures room { report.old.room ≤ report.new.room }

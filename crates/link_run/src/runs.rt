@@ -5,9 +5,9 @@ ghost use Rattle.link_params.specs.declared.fields.Mode.TheVariants.{B};
 ghost use Rattle.lane_b.specs.Received.{lanes_b};
 ghost use Rattle.scenario.specs.Plans.{Plan, plan_of};
 ghost use Rattle.link_run.specs.LinkStates.{HasRun};
-ghost use Rattle.link_run.specs.Report.{report, totals};
+ghost use Rattle.link_model.specs.Report.{report, totals};
 ghost use Rattle.link_run.specs.Reported.{AreFew, HasReported};
-ghost use Rattle.link_run.specs.Run.{run as history};
+ghost use Rattle.link_model.specs.Run.{run as history};
 
 use crate::link_state::LinkState;
 use crate::report::Report;
@@ -25,12 +25,15 @@ pub struct Ran {
     pub totals: Totals,
 }
 
-/// Runs the link of a scenario from its first tick to its last one. `NoMemory` where the text of the report or the link gets no memory.
+/// Runs the link of a scenario from its first tick to its last one. `NoMemory` where the text of
+/// the report or the link gets no memory.
 pub fn run(alloc: Global, s: &Scenario) -> Result<Ran, NoMemory>
     requires link { IsTrue (is_some s.now.link) }
     requires mode { ForSome s.now.link (λ k. k.params.mode ≡ B) }
-    ensures text { (plan : Plan) → plan_of s.now ≡ Some plan → IfOk result (λ r. r.text.items ≡ report lanes_b plan) }
-    ensures totals { (plan : Plan) → plan_of s.now ≡ Some plan → IfOk result (λ r. r.totals ≡ totals plan (history lanes_b plan plan.ticks)) }
+    ensures text { (plan : Plan) → plan_of s.now ≡ Some plan
+        → IfOk result (λ r. r.text.items ≡ report lanes_b plan) }
+    ensures totals { (plan : Plan) → plan_of s.now ≡ Some plan
+        → IfOk result (λ r. r.totals ≡ totals plan (history lanes_b plan plan.ticks)) }
 {
     let Some(link) = s.link else { unreachable!() };
     let mut state = LinkState::open(alloc, s, &link)?;
@@ -48,7 +51,8 @@ pub fn run(alloc: Global, s: &Scenario) -> Result<Ran, NoMemory>
 
 // A report with the rows before the first tick.
 fn open_report(alloc: Global, s: &Scenario) -> Result<Report, NoMemory>
-    ensures reported { (plan : Plan) → plan_of s.now ≡ Some plan → IfOk result (λ r. HasReported r plan []) }
+    ensures reported { (plan : Plan) → plan_of s.now ≡ Some plan
+        → IfOk result (λ r. HasReported r plan []) }
     ensures few { IfOk result (λ r. AreFew r.totals 0) }
 {
     let mut report = Report::open(alloc, s)?;
@@ -66,11 +70,15 @@ fn run_tick(
 ) -> Result<(), NoMemory>
     requires tick { t < s.now.ticks }
     requires link { s.now.link ≡ Some state.old.link }
-    requires stands { (plan : Plan) → plan_of s.now ≡ Some plan → HasRun state.old plan (history lanes_b plan t) }
-    requires reported { (plan : Plan) → plan_of s.now ≡ Some plan → HasReported report.old plan (history lanes_b plan t) }
+    requires stands { (plan : Plan) → plan_of s.now ≡ Some plan
+        → HasRun state.old plan (history lanes_b plan t) }
+    requires reported { (plan : Plan) → plan_of s.now ≡ Some plan
+        → HasReported report.old plan (history lanes_b plan t) }
     requires few { AreFew report.old.totals t }
-    ensures stands { (plan : Plan) → plan_of s.now ≡ Some plan → HasRun state.new plan (history lanes_b plan (t + 1)) }
-    ensures reported { (plan : Plan) → plan_of s.now ≡ Some plan → OnOk result (HasReported report.new plan (history lanes_b plan (t + 1))) }
+    ensures stands { (plan : Plan) → plan_of s.now ≡ Some plan
+        → HasRun state.new plan (history lanes_b plan (t + 1)) }
+    ensures reported { (plan : Plan) → plan_of s.now ≡ Some plan
+        → OnOk result (HasReported report.new plan (history lanes_b plan (t + 1))) }
     ensures few { OnOk result (AreFew report.new.totals (t + 1)) }
     ensures same { state.new.link ≡ state.old.link }
 {

@@ -4,13 +4,13 @@ ghost use Rattle.link_params.specs.declared.fields.Params.{Params as ParamsValue
 ghost use Rattle.link_params.specs.declared.fields.Mode.TheVariants.{B};
 ghost use Rattle.link_params.specs.Numbers.{period as period_of};
 ghost use Rattle.lane_b.specs.Senders.{Follows, next_place};
-ghost use Rattle.link_run.specs.Orders.{Observed, tx_order};
+ghost use Rattle.link_model.specs.Orders.{Observed, tx_order};
 ghost use Rattle.link_run.specs.Sendings.{GoesOnTo, HasObserved, next_of};
 
 use link_params::TxOrder;
 
-/// Where a transmitter of 8b/10b lanes stands (JESD204B.01 clauses 5.3.3.1, code group synchronization, and 5.3.3.5, initial lane
-/// alignment).
+/// Where a transmitter of 8b/10b lanes stands (JESD204B.01 clauses 5.3.3.1, code group
+/// synchronization, and 5.3.3.5, initial lane alignment).
 #[derive(Clone, Copy, Debug, PartialEq, Eq)]
 pub enum Sending {
     /// It has not seen SYNC~ low since its reset, and sends /K/.
@@ -32,17 +32,22 @@ impl Sending {
         Sending::Idle
     }
 
-    /// The order of the next tick, at this phase of the transmitter's clock, where it sees SYNC~ low or high.
+    /// The order of the next tick, at this phase of the transmitter's clock, where it sees SYNC~
+    /// low or high.
     pub fn tick(&mut self, period: u32, phase: Option<u32>, low: bool) -> TxOrder
         requires short { 1 ≤ period }
         requires long { period ≤ 1024 }
-        ensures order { (p : ParamsValue) (observed : List Observed) → p.mode ≡ B → period_of p ≡ period → HasObserved self.old p observed
+        ensures order { (p : ParamsValue) (observed : List Observed) → p.mode ≡ B
+            → period_of p ≡ period → HasObserved self.old p observed
             → result ≡ tx_order p (observed ++ (record { phase = phase; low = low }) ∷ []) }
-        ensures goes_on { (p : ParamsValue) (observed : List Observed) → p.mode ≡ B → period_of p ≡ period → HasObserved self.old p observed
+        ensures goes_on { (p : ParamsValue) (observed : List Observed) → p.mode ≡ B
+            → period_of p ≡ period → HasObserved self.old p observed
             → HasObserved self.new p (observed ++ (record { phase = phase; low = low }) ∷ []) }
-        ensures follows { (p : ParamsValue) (observed : List Observed) → p.mode ≡ B → period_of p ≡ period → HasObserved self.old p observed
+        ensures follows { (p : ParamsValue) (observed : List Observed) → p.mode ≡ B
+            → period_of p ≡ period → HasObserved self.old p observed
             → Follows p (next_of p self.old) result }
-        ensures next { (p : ParamsValue) (observed : List Observed) → p.mode ≡ B → period_of p ≡ period → HasObserved self.old p observed
+        ensures next { (p : ParamsValue) (observed : List Observed) → p.mode ≡ B
+            → period_of p ≡ period → HasObserved self.old p observed
             → next_of p self.new ≡ next_place p result }
     {
         if low {
@@ -58,7 +63,8 @@ impl Sending {
     fn next(self, period: u32, phase: Option<u32>) -> (Sending, TxOrder)
         requires short { 1 ≤ period }
         requires long { period ≤ 1024 }
-        ensures { (p : ParamsValue) (observed : List Observed) → p.mode ≡ B → period_of p ≡ period → HasObserved self p observed
+        ensures { (p : ParamsValue) (observed : List Observed) → p.mode ≡ B → period_of p ≡ period
+            → HasObserved self p observed
             → GoesOnTo self result.0 p observed (record { phase = phase; low = false }) result.1 }
     {
         match self {

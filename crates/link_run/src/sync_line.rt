@@ -1,6 +1,7 @@
 //! SYNC~ from the receiver to the transmitter (JESD204B.01 clause 4.9, "SYNC interface").
 ghost use Rattle.std.specs.Prelude.{◌≡◌, ◌<◌, ◌++◌, ◌∷◌, [], ℕ, true, Bool, List, length, get_or, IfOk};
-ghost use Rattle.link_run.specs.Seen.{HasSynced, seen_of};
+ghost use Rattle.link_run.specs.Seen.{HasSynced};
+ghost use Rattle.link_model.specs.Before.{seen_of};
 
 use circular_buffer::HeapCircularBuffer;
 use jesd_base::NoMemory;
@@ -24,8 +25,9 @@ impl Model for SyncLine {
 }
 
 impl SyncLine {
-    /// SYNC~ before the first tick of a run: it was low. The transmitter sees a level `delay` + 1 ticks after the tick that it follows.
-    /// All its memory is taken here; `NoMemory` where there is none.
+    /// SYNC~ before the first tick of a run: it was low. The transmitter sees a level `delay` + 1
+    /// ticks after the tick that it follows. All its memory is taken here; `NoMemory` where there
+    /// is none.
     pub fn open(alloc: Global, delay: u32) -> Result<SyncLine, NoMemory>
         requires { delay < 1024 }
         ensures { IfOk result (λ l. HasSynced l delay []) }
@@ -44,7 +46,8 @@ impl SyncLine {
 
     /// Whether the transmitter sees SYNC~ low in this tick.
     pub fn is_low(&self) -> bool
-        ensures { (delay : ℕ) (lows : List Bool) → HasSynced self.now delay lows → result ≡ get_or (seen_of delay lows) (length lows) true }
+        ensures { (delay : ℕ) (lows : List Bool) → HasSynced self.now delay lows
+            → result ≡ get_or (seen_of delay lows) (length lows) true }
     {
         match self.levels.front() {
             Some(low) => *low,
@@ -54,7 +57,8 @@ impl SyncLine {
 
     /// The level after this tick.
     pub fn push(&mut self, low: bool)
-        ensures { (delay : ℕ) (lows : List Bool) → HasSynced self.old delay lows → HasSynced self.new delay (lows ++ low ∷ []) }
+        ensures { (delay : ℕ) (lows : List Bool) → HasSynced self.old delay lows
+            → HasSynced self.new delay (lows ++ low ∷ []) }
     {
         let _ = self.levels.pop_front();
         let _ = self.levels.push_back(low);

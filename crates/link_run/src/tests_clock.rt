@@ -70,7 +70,8 @@ fn tx_jitter(edge: u32, sixteenths: i32) -> Jitter
     }
 }
 
-// The same, without jitter, or with two records for edge 0 at the transmitter of which the last says -8.
+// The same, without jitter, or with two records for edge 0 at the transmitter of which the last
+// says -8.
 fn answer_with(device: Device, jitter: bool, reset: u32, at: u32) -> Option<ClockTick> {
     if !jitter {
         return answer_in(device, &[], reset, at);

@@ -5,15 +5,17 @@ ghost use Rattle.link_params.specs.declared.alarms.Device.TheVariants.{Tx as TxD
 ghost use Rattle.scenario.specs.Plans.{Plan, plan_of};
 ghost use Rattle.link_params.specs.declared.fields.Params.{Params as ParamsValue};
 ghost use Rattle.link_params.specs.Numbers.{period as period_of};
-ghost use Rattle.link_run.specs.Edges.{is_reset, phase as phase_of};
-ghost use Rattle.link_run.specs.Orders.{Observed};
+ghost use Rattle.link_model.specs.Edges.{is_reset, phase as phase_of};
+ghost use Rattle.link_model.specs.Orders.{Observed};
 ghost use Rattle.link_run.specs.Seen.{HasFed, HasSynced};
-ghost use Rattle.link_run.specs.Histories.{observed_before};
+ghost use Rattle.link_model.specs.Before.{observed_before};
 ghost use Rattle.bring_up.specs.Decisions.{is_hunting};
 ghost use Rattle.lane_b.specs.Received.{lanes_b};
-ghost use Rattle.link_run.specs.Run.{History, moment};
+ghost use Rattle.link_model.specs.Moments.{History};
+ghost use Rattle.link_model.specs.Run.{moment};
 ghost use Rattle.link_run.specs.Sendings.{HasObserved, next_of};
-ghost use Rattle.link_run.specs.Transmitters.{HasSentRun, HasSentTick, IsOrderB, IsSentTick, Observes, frame_place, is_start, levels_after};
+ghost use Rattle.link_run.specs.Transmitters.{HasSentRun, HasSentTick, IsSentTick, Observes, is_start};
+ghost use Rattle.link_model.specs.Before.{IsOrderB, frame_place, levels_after};
 
 use crate::device_clock::DeviceClock;
 use crate::feed::Feed;
@@ -46,7 +48,8 @@ impl Model for Transmitter {
 impl Transmitter {
     /// The transmitter before the first tick of a run; `NoMemory` where there is none.
     pub fn open(alloc: Global, s: &Scenario, link: &Link) -> Result<Transmitter, NoMemory>
-        ensures begins { (plan : Plan) → plan_of s.now ≡ Some plan → plan.link ≡ link.now → IfOk result (λ t. HasSentRun t plan []) }
+        ensures begins { (plan : Plan) → plan_of s.now ≡ Some plan → plan.link ≡ link.now
+            → IfOk result (λ t. HasSentRun t plan []) }
         ensures idle { (p : ParamsValue) → IfOk result (λ t. next_of p t.sending ≡ None) }
     {
         let _period = link.shape().period();
@@ -64,7 +67,8 @@ impl Transmitter {
         requires begun { self.old.feed.begun ≤ t }
         requires shape { s.now.shape ≡ self.old.feed.params }
         requires mode { link.now.params.mode ≡ B }
-        ensures sent { (plan : Plan) (h : History) → plan_of s.now ≡ Some plan → plan.link ≡ link.now → HasSentRun self.old plan h → t ≡ length h
+        ensures sent { (plan : Plan) (h : History) → plan_of s.now ≡ Some plan
+            → plan.link ≡ link.now → HasSentRun self.old plan h → t ≡ length h
             → reset ≡ is_reset plan TxDevice t → IsSentTick result self.old self.new plan h reset }
         ensures begun { self.new.feed.begun ≤ t + 1 }
         ensures same { self.new.feed.params ≡ self.old.feed.params }
@@ -90,7 +94,8 @@ impl Transmitter {
 
     /// The tick is over: SYNC~ is low or high after it.
     pub fn end(&mut self, low: bool)
-        ensures ended { (plan : Plan) (h : History) → HasSentTick self.old plan h → low ≡ is_hunting (moment lanes_b plan h).stage
+        ensures ended { (plan : Plan) (h : History) → HasSentTick self.old plan h
+            → low ≡ is_hunting (moment lanes_b plan h).stage
             → HasSentRun self.new plan (h ++ moment lanes_b plan h ∷ []) }
         ensures same { self.new ≡ record self.old { sync = self.new.sync } }
     {
@@ -107,7 +112,9 @@ impl Transmitter {
     fn begin_if(&mut self, s: &Scenario, begins: bool)
         requires count { self.old.feed.begun < 4294967295 }
         requires shape { s.now.shape ≡ self.old.feed.params }
-        ensures fed { (plan : Plan) (n : ℕ) → plan_of s.now ≡ Some plan → HasFed self.old.feed plan n → HasFed self.new.feed plan (n + (if begins then 1 else 0)) }
+        ensures fed { (plan : Plan) (n : ℕ) → plan_of s.now ≡ Some plan
+            → HasFed self.old.feed plan n
+            → HasFed self.new.feed plan (n + (if begins then 1 else 0)) }
         ensures params { self.new.feed.params ≡ self.old.feed.params }
         ensures begun { self.new.feed.begun ≤ self.old.feed.begun + 1 }
         ensures same { self.new ≡ record self.old { feed = self.new.feed } }
@@ -128,7 +135,8 @@ fn observe(
 ) -> TxOrder
     requires short { 1 ≤ period }
     requires long { period ≤ 1024 }
-    ensures { (plan : Plan) (h : History) → plan.link.params.mode ≡ B → period_of plan.link.params ≡ period
+    ensures { (plan : Plan) (h : History) → plan.link.params.mode ≡ B
+        → period_of plan.link.params ≡ period
         → HasSynced sync.now plan.link.timing.sync_delay (levels_after h) → HasObserved sending.old plan.link.params (observed_before plan h)
         → phase ≡ phase_of plan TxDevice (length h) → reset ≡ is_reset plan TxDevice (length h) → Observes result sending.old sending.new plan h reset }
 {
@@ -137,8 +145,10 @@ fn observe(
 }
 
 fn reset_if(sending: &mut Sending, reset: bool)
-    ensures observed { (p : ParamsValue) (ticks : List Observed) → HasObserved sending.old p ticks → HasObserved sending.new p (if reset then [] else ticks) }
-    ensures next { (p : ParamsValue) → next_of p sending.new ≡ (if reset then None else next_of p sending.old) }
+    ensures observed { (p : ParamsValue) (ticks : List Observed) → HasObserved sending.old p ticks
+        → HasObserved sending.new p (if reset then [] else ticks) }
+    ensures next { (p : ParamsValue)
+        → next_of p sending.new ≡ (if reset then None else next_of p sending.old) }
 {
     if reset {
         *sending = Sending::new();

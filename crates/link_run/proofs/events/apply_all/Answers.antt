@@ -12,7 +12,14 @@ apply-requires c =
     let r = c.requires.ran in
     let i = c.loop-event.event-index in
     let d : Event = record { tick = 0; what = Reset Tx } in
-    record { ran = (r.0, λ lane. after (take i c.args.events.now) lane (r.1 lane), c.loop-event.invariant.goes_on r.0 r.1 r.2, r.3 i d c.loop-event-test.true) }
+    record {
+      ran = (
+        r.0,
+        λ lane. after (take i c.args.events.now) lane (r.1 lane),
+        c.loop-event.invariant.goes_on r.0 r.1 r.2,
+        r.3 i d c.loop-event-test.true,
+      );
+    }
 
 pub loop-event-init : goal.loop-event-init
 loop-event-init c = applied-none c.args.lanes.now
@@ -20,10 +27,13 @@ loop-event-init c = applied-none c.args.lanes.now
 pub loop-event-preserved : goal.loop-event-preserved
 loop-event-preserved c =
     let d : Event = record { tick = 0; what = Reset Tx } in
-    applied-more c.args.lanes.now c.loop-event.lanes c.apply.new.lanes c.args.events.now c.loop-event.event-index d c.loop-event-test.true
+    applied-more c.args.lanes.now c.loop-event.lanes c.apply.new.lanes c.args.events.now
+    c.loop-event.event-index d c.loop-event-test.true
     c.apply.ensures.goes_on c.apply.ensures.at c.apply.ensures.count c.loop-event.invariant
 
 pub returns-clause-goes_on : goal.returns-clause-goes_on
 returns-clause-goes_on c s runs run =
-    let all : take c.loop-event.event-index c.args.events.now ≡ c.args.events.now = take_all c.loop-event.event-index c.args.events.now (omega arith) in
-    subst (λ es. HaveRun c.loop-event.lanes s (λ lane. after es lane (runs lane))) all (c.loop-event.invariant.goes_on s runs run)
+    let all : take c.loop-event.event-index c.args.events.now ≡ c.args.events.now =
+    take_all c.loop-event.event-index c.args.events.now (omega arith) in
+    subst (λ es. HaveRun c.loop-event.lanes s (λ lane. after es lane (runs lane))) all
+    (c.loop-event.invariant.goes_on s runs run)

@@ -8,7 +8,8 @@ use Rattle.link_run.proofs.events.end_of.Goals as goal
 
 pub loop-end-init : goal.loop-end-init
 loop-end-init c =
-    let more = passed-more c.args.events.now 0 c.args.t (ascending c.args.events.now c.requires.ordered) in
+    let more = passed-more c.args.events.now 0 c.args.t
+    (ascending c.args.events.now c.requires.ordered) in
     let from : c.args.from ≡ passed c.args.t c.args.events.now = c.requires.from in
     (omega arith, omega arith)
 
@@ -23,7 +24,8 @@ loop-end-preserved c =
     elim (cases_lt c.loop-end.end (passed (t + 1) xs)) [
       | inl before ↦ (omega arith, omega arith)
       | inr past ↦
-          let late = from-passed xs 0 (t + 1) c.loop-end.end d (ascending xs c.requires.ordered) past c.loop-end-test.true in
+          let late = from-passed xs 0 (t + 1) c.loop-end.end d (ascending xs c.requires.ordered)
+          past c.loop-end-test.true in
           absurd (omega arith)
     ]
 
@@ -47,5 +49,6 @@ returns-else-events-end-clause-end c =
 pub returns-else-events-end-clause-within : goal.returns-else-events-end-clause-within
 returns-else-events-end-clause-within c =
     let high = c.loop-end.invariant.1 in
-    let all = passed-le c.args.events.now 0 (c.args.t + 1) (ascending c.args.events.now c.requires.ordered) in
+    let all = passed-le c.args.events.now 0 (c.args.t + 1)
+    (ascending c.args.events.now c.requires.ordered) in
     omega arith

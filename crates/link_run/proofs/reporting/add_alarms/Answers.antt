@@ -16,5 +16,7 @@ loop-i-preserved c =
       omega arith,
       omega arith,
       rw (more.counts, kept.3, sum) refl,
-      λ plan rows is printed. rw (alarm-rows-more c.args.alarms.now rows c.args.t c.loop-i.i c.get.result c.get.ensures) (more.printed plan _ is (kept.4 plan rows is printed)),
+      λ plan rows is printed.
+          rw (alarm-rows-more c.args.alarms.now rows c.args.t c.loop-i.i c.get.result c.get.ensures)
+          (more.printed plan _ is (kept.4 plan rows is printed)),
     )

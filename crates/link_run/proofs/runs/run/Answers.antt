@@ -1,16 +1,21 @@
 use Rattle.std.proofs.Common.{◌≡◌, ◌∙◌, [], ◌∷◌, ◌++◌, Some, ap, arith, sym}
 use Rattle.lane_b.specs.Received.{lanes_b}
 use Rattle.scenario.specs.declared.report_row.Row.TheVariants as row
-use Rattle.link_run.specs.Report.{bare, lines, report, rows, totals}
+use Rattle.link_model.specs.Report.{bare, lines, report, rows, totals}
 use Rattle.link_run.specs.Reported.{rows_so_far}
-use Rattle.link_run.specs.Run.{run as history}
+use Rattle.link_model.specs.Run.{run as history}
 use Rattle.link_run.proofs.LaneStates.{plan-there}
 use Rattle.link_run.proofs.PlanFacts.{plan-facts}
 use Rattle.link_run.proofs.runs.run.Goals as goal
 
 pub loop-t-init : goal.loop-t-init
 unfolding history
-loop-t-init c = (c.in-Some.is ∙ ap Some (sym c.in_ok-state.ensures.same), c.in_ok-state.ensures.stands, c.in_ok-report.ensures.reported, c.in_ok-report.ensures.few)
+loop-t-init c = (
+  c.in-Some.is ∙ ap Some (sym c.in_ok-state.ensures.same),
+  c.in_ok-state.ensures.stands,
+  c.in_ok-report.ensures.reported,
+  c.in_ok-report.ensures.few,
+)
 
 pub loop-t-preserved : goal.loop-t-preserved
 loop-t-preserved c =
@@ -32,11 +37,13 @@ returns-clause-text c = λ plan is.
     let counts = c.totals-totals.ensures ∙ had.counts in
     c.into_text.ensures
     ∙ (c.in_ok-row.ensures.printed plan _ is had.printed).lines_of_rows
-    ∙ ap (λ n. lines plan (rows_so_far plan (history lanes_b plan c.loop-t.t) ++ bare (row.End n) ∷ [])) counts
+    ∙ ap (λ n. lines plan (rows_so_far plan (history lanes_b plan c.loop-t.t) ++ bare (row.End n)
+    ∷ [])) counts
     ∙ ap (λ t. lines plan (rows plan (history lanes_b plan t))) at
 
 pub returns-clause-totals : goal.returns-clause-totals
 returns-clause-totals c = λ plan is.
     let past = c.loop-t-test.false in
     let at : c.loop-t.t ≡ plan.ticks = omega (arith, (plan-facts c.args.s.now plan is).ticks) in
-    c.totals-totals.ensures ∙ (c.loop-t.invariant.2 plan is).counts ∙ ap (λ t. totals plan (history lanes_b plan t)) at
+    c.totals-totals.ensures ∙ (c.loop-t.invariant.2 plan is).counts
+    ∙ ap (λ t. totals plan (history lanes_b plan t)) at

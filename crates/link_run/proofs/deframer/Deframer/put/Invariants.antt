@@ -8,4 +8,12 @@ invariant-loop-lane l =
     (l.first ≡ l.fn.self.at)
     × (l.octets ≡ l.fn.self.params.f)
     × HasSizes d.shape d.layout d.at d.octets.items d.words.items
-    × IsPutting l.fn.self (record { params = d.shape; at = d.at; mark = d.mark; octets = d.octets.items; words = d.words.items }) l.lane l.given
+    × IsPutting l.fn.self
+    (record {
+      params = d.shape;
+      at = d.at;
+      mark = d.mark;
+      octets = d.octets.items;
+      words =
+          d.words.items;
+    }) l.lane l.given

@@ -9,7 +9,8 @@ returns-clause-goes_on c s lane x h =
     let p = s.link.params in
     let t = s.link.timing in
     let old = subst (λ (q : Pair). HasRunLane q s lane x) (sym c.self.view_is) h in
-    lane-ticks _ s lane x c.args.order c.args.octet c.args.told.now c.from.result c.step-received.result (record {
+    lane-ticks _ s lane x c.args.order c.args.octet c.args.told.now c.from.result
+    c.step-received.result (record {
       narrow = sym (ap (λ (k : Settings). k.width) old.line.keeps_settings) ∙ c.self.invariant;
       sends = rw c.from.ensures (c.tick-sent.ensures.word p lane x.handed old.tx);
       sent = c.tick-sent.ensures.sent p lane x.handed old.tx;

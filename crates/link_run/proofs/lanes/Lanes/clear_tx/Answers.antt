@@ -8,9 +8,16 @@ loop-pair-init c = changed-none IsCleared c.deref_mut-pair-items.result.now
 
 pub loop-pair-preserved : goal.loop-pair-preserved
 loop-pair-preserved c =
-    changed-more IsCleared c.deref_mut-pair-items.result.now c.loop-pair.pair-items c.loop-pair.pair-index
-    (get_or c.loop-pair.pair-items c.loop-pair.pair-index c.pair-item.result) c.clear_tx.new.self c.pair-item.result (omega arith) refl
-    (record { goes_on = c.clear_tx.ensures.goes_on; next = c.clear_tx.ensures.next; same = c.clear_tx.ensures.same }) c.loop-pair.invariant
+    changed-more IsCleared c.deref_mut-pair-items.result.now c.loop-pair.pair-items
+    c.loop-pair.pair-index
+    (get_or c.loop-pair.pair-items c.loop-pair.pair-index c.pair-item.result) c.clear_tx.new.self
+    c.pair-item.result (omega arith) refl
+    (record {
+      goes_on = c.clear_tx.ensures.goes_on;
+      next = c.clear_tx.ensures.next;
+      same =
+          c.clear_tx.ensures.same;
+    }) c.loop-pair.invariant
 
 pub returns-clause-goes_on : goal.returns-clause-goes_on
 returns-clause-goes_on c s runs run =
@@ -18,9 +25,13 @@ returns-clause-goes_on c s runs run =
     let count = c.deref_mut-pair-items.ensures.len in
     let long = ap length c.deref_mut-pair-items.ensures.value in
     let same = c.loop-pair.invariant.count in
-    let back = written-back c.self.inside.pairs.len c.self.inside.pairs.items c.loop-pair.pair-items (sym long ∙ count) (same ∙ count) in
-    rw back (have-run IsCleared c.deref_mut-pair-items.result.now c.loop-pair.pair-items c.loop-pair.pair-index s runs (λ k. record (runs k) { handed = [] })
-    c.loop-pair.invariant (omega arith) (λ k x y done. done.goes_on s k (runs k)) (subst (λ (l : List Pair). HaveRun l s runs) (sym old) run))
+    let back = written-back c.self.inside.pairs.len c.self.inside.pairs.items c.loop-pair.pair-items
+    (sym long ∙ count) (same ∙ count) in
+    rw back
+    (have-run IsCleared c.deref_mut-pair-items.result.now c.loop-pair.pair-items
+    c.loop-pair.pair-index s runs (λ k. record (runs k) { handed = [] })
+    c.loop-pair.invariant (omega arith) (λ k x y done. done.goes_on s k (runs k))
+    (subst (λ (l : List Pair). HaveRun l s runs) (sym old) run))
 
 pub returns-clause-at : goal.returns-clause-at
 returns-clause-at c p next at =
@@ -28,6 +39,10 @@ returns-clause-at c p next at =
     let count = c.deref_mut-pair-items.ensures.len in
     let long = ap length c.deref_mut-pair-items.ensures.value in
     let same = c.loop-pair.invariant.count in
-    let back = written-back c.self.inside.pairs.len c.self.inside.pairs.items c.loop-pair.pair-items (sym long ∙ count) (same ∙ count) in
-    rw back (are-at IsCleared c.deref_mut-pair-items.result.now c.loop-pair.pair-items c.loop-pair.pair-index p next None
-    c.loop-pair.invariant (omega arith) (λ k x y done stood. (done.same ∙ stood.0, done.next)) (subst (λ (l : List Pair). AreAt l p next) (sym old) at))
+    let back = written-back c.self.inside.pairs.len c.self.inside.pairs.items c.loop-pair.pair-items
+    (sym long ∙ count) (same ∙ count) in
+    rw back
+    (are-at IsCleared c.deref_mut-pair-items.result.now c.loop-pair.pair-items
+    c.loop-pair.pair-index p next None
+    c.loop-pair.invariant (omega arith) (λ k x y done stood. (done.same ∙ stood.0, done.next))
+    (subst (λ (l : List Pair). AreAt l p next) (sym old) at))

@@ -9,13 +9,17 @@ loop-pair-init c = refl
 
 pub loop-pair-preserved : goal.loop-pair-preserved
 loop-pair-preserved c =
-    c.max-most.ensures ∙ ap₂ max c.loop-pair.invariant (c.held.ensures.count ∙ ap held_in c.pair-item.is)
-    ∙ sym (held-more c.deref-pair-items.result.now c.loop-pair.pair-index c.args.most c.pair-item.result c.loop-pair-test.true)
+    c.max-most.ensures
+    ∙ ap₂ max c.loop-pair.invariant (c.held.ensures.count ∙ ap held_in c.pair-item.is)
+    ∙ sym (held-more c.deref-pair-items.result.now c.loop-pair.pair-index c.args.most
+    c.pair-item.result c.loop-pair-test.true)
 
 pub returns : goal.returns
 returns c s runs run =
     let lanes = c.deref-pair-items.result.now in
     let old = c.deref-pair-items.ensures.value ∙ c.self.view_is in
     c.loop-pair.invariant
-    ∙ ap (λ (l : List Pair). fold max c.args.most (map held_in l)) (take_all c.loop-pair.pair-index lanes c.loop-pair-test.false)
-    ∙ ap (fold max c.args.most) (all-held lanes s runs (subst (λ (l : List Pair). HaveRun l s runs) (sym old) run))
+    ∙ ap (λ (l : List Pair). fold max c.args.most (map held_in l))
+    (take_all c.loop-pair.pair-index lanes c.loop-pair-test.false)
+    ∙ ap (fold max c.args.most)
+    (all-held lanes s runs (subst (λ (l : List Pair). HaveRun l s runs) (sym old) run))

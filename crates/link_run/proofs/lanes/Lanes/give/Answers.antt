@@ -1,5 +1,6 @@
 use Rattle.std.proofs.Common.{◌<◌, ◌+◌, List, ◌∙◌, ap, arith, get_or, length, subst, sym}
-use Rattle.link_run.specs.LaneRuns.{AreAt, HaveRun, Pair, given_by}
+use Rattle.link_run.specs.LaneRuns.{AreAt, HaveRun, Pair}
+use Rattle.link_model.specs.LaneRuns.{given_by}
 use Rattle.link_run.proofs.LaneLemmas.{HasGiven, IsGiven, all-written, are-at, changed-more, changed-none, have-run, written-more, written-none}
 use Rattle.link_run.proofs.lanes.Lanes.give.Goals as goal
 
@@ -13,9 +14,11 @@ give-requires c =
     let same = ap length c.self.view_is in
     let lanes = c.self.inside.pairs.items in
     let below : c.loop-lane.lane < length lanes = omega arith in
-    let e = c.index_mut.ensures.value ∙ c.loop-lane.invariant.changed.left c.loop-lane.lane x (omega arith) below
+    let e = c.index_mut.ensures.value ∙ c.loop-lane.invariant.changed.left c.loop-lane.lane x
+    (omega arith) below
     ∙ ap (λ (l : List Pair). get_or l c.loop-lane.lane x) c.self.view_is in
-    subst (λ (q : Pair). 0 < length q.rx.buffer.cells) (sym e) (c.requires.entries c.loop-lane.lane x (omega arith))
+    subst (λ (q : Pair). 0 < length q.rx.buffer.cells) (sym e)
+    (c.requires.entries c.loop-lane.lane x (omega arith))
 
 pub loop-lane-preserved : goal.loop-lane-preserved
 loop-lane-preserved c =
@@ -28,10 +31,18 @@ loop-lane-preserved c =
     let lanes = c.self.inside.pairs.items in
     let below : c.loop-lane.lane < length lanes = omega arith in
     record {
-      changed = changed-more HasGiven lanes c.loop-lane.self-inside.pairs.items c.loop-lane.lane x c.give.new.self x (omega arith) c.index_mut.ensures.value
-          (record { goes_on = c.give.ensures.goes_on; next = c.give.ensures.next; same = c.give.ensures.same }) c.loop-lane.invariant.changed;
-      written = written-more IsGiven lanes c.loop-lane.given c.loop-lane.lane x x c.give.result below (omega arith)
-          (c.index_mut.ensures.value ∙ c.loop-lane.invariant.changed.left c.loop-lane.lane x (omega arith) below)
+      changed = changed-more HasGiven lanes c.loop-lane.self-inside.pairs.items c.loop-lane.lane x
+          c.give.new.self x (omega arith) c.index_mut.ensures.value
+          (record {
+            goes_on = c.give.ensures.goes_on;
+            next = c.give.ensures.next;
+            same =
+                c.give.ensures.same;
+          }) c.loop-lane.invariant.changed;
+      written = written-more IsGiven lanes c.loop-lane.given c.loop-lane.lane x x c.give.result
+          below (omega arith)
+          (c.index_mut.ensures.value ∙ c.loop-lane.invariant.changed.left c.loop-lane.lane x
+          (omega arith) below)
           (record { entry = c.give.ensures.entry }) c.loop-lane.invariant.written;
     }
 
@@ -41,14 +52,17 @@ returns-clause-given c s runs run =
     let same = ap length c.self.view_is in
     let given = c.loop-lane.auto.given in
     let count = c.requires.count in
-    all-written IsGiven c.self.inside.pairs.items c.loop-lane.given c.loop-lane.lane s runs (given_by s runs) c.loop-lane.invariant.written (omega arith) (omega arith)
-    (subst (λ (l : List Pair). HaveRun l s runs) (sym c.self.view_is) run) (λ k x y done h. done.entry s k (runs k) h)
+    all-written IsGiven c.self.inside.pairs.items c.loop-lane.given c.loop-lane.lane s runs
+    (given_by s runs) c.loop-lane.invariant.written (omega arith) (omega arith)
+    (subst (λ (l : List Pair). HaveRun l s runs) (sym c.self.view_is) run)
+    (λ k x y done h. done.entry s k (runs k) h)
 
 pub returns-clause-goes_on : goal.returns-clause-goes_on
 returns-clause-goes_on c s runs run =
     let long = ap length c.as_slice-lane-end.ensures.value in
     let kept = c.loop-lane.invariant.changed.count in
-    have-run HasGiven c.self.inside.pairs.items c.loop-lane.self-inside.pairs.items c.loop-lane.lane s runs (λ k. record (runs k) { gave = (runs k).gave + 1 })
+    have-run HasGiven c.self.inside.pairs.items c.loop-lane.self-inside.pairs.items c.loop-lane.lane
+    s runs (λ k. record (runs k) { gave = (runs k).gave + 1 })
     c.loop-lane.invariant.changed (omega arith) (λ k x y done. done.goes_on s k (runs k))
     (subst (λ (l : List Pair). HaveRun l s runs) (sym c.self.view_is) run)
 
@@ -56,6 +70,8 @@ pub returns-clause-at : goal.returns-clause-at
 returns-clause-at c p next at =
     let long = ap length c.as_slice-lane-end.ensures.value in
     let kept = c.loop-lane.invariant.changed.count in
-    are-at HasGiven c.self.inside.pairs.items c.loop-lane.self-inside.pairs.items c.loop-lane.lane p next next
-    c.loop-lane.invariant.changed (omega arith) (λ k x y done stood. (done.same ∙ stood.0, done.next ∙ stood.1))
+    are-at HasGiven c.self.inside.pairs.items c.loop-lane.self-inside.pairs.items c.loop-lane.lane p
+    next next
+    c.loop-lane.invariant.changed (omega arith)
+    (λ k x y done stood. (done.same ∙ stood.0, done.next ∙ stood.1))
     (subst (λ (l : List Pair). AreAt l p next) (sym c.self.view_is) at)

@@ -8,7 +8,8 @@ use Rattle.link_run.proofs.lanes.Lanes.open.Goals as goal
 
 pub loop-lane-init : goal.loop-lane-init
 loop-lane-init c = record {
-  opened = opened-none (IsOpened c.args.link.now c.args.flips.now c.args.ticks) c.new-pairs.result.items c.new-pairs.ensures.items;
+  opened = opened-none (IsOpened c.args.link.now c.args.flips.now c.args.ticks)
+      c.new-pairs.result.items c.new-pairs.ensures.items;
   long = c.new-pairs.ensures.len;
 }
 
@@ -18,13 +19,21 @@ loop-lane-preserved c =
     let flips = c.args.flips.now in
     let within = fits-within link.params c.args.ticks flips c.requires.mode c.requires.flips in
     let ok = c.if-is_err.ensures.negation in
-    let items = c.push.ensures.items ∙ ap (λ b. if b then c.loop-lane.pairs.items ++ c.in_ok-pair.pair ∷ [] else c.loop-lane.pairs.items) ok in
-    let longer = c.push.ensures.len ∙ ap (λ b. if b then vec_len c.loop-lane.pairs + 1 else vec_len c.loop-lane.pairs) ok in
+    let items = c.push.ensures.items
+    ∙ ap (λ b. if b then c.loop-lane.pairs.items ++ c.in_ok-pair.pair
+    ∷ [] else c.loop-lane.pairs.items) ok in
+    let longer = c.push.ensures.len
+    ∙ ap (λ b. if b then vec_len c.loop-lane.pairs + 1 else vec_len c.loop-lane.pairs) ok in
     record {
-      opened = subst (λ (l : List Pair). AreOpened (IsOpened link flips c.args.ticks) l (c.loop-lane.lane + 1)) (sym items)
-          (opened-more (IsOpened link flips c.args.ticks) c.loop-lane.pairs.items c.loop-lane.lane c.in_ok-pair.pair (record {
-            begins = λ s same_link same_flips same_ticks. c.in_ok-pair.ensures.begins s same_link (c.in_ok-inverted.ensures.inverted s (10 * s.ticks) same_flips
-                (subst (λ t. All (λ (f : Flip). f.first + f.count ≤ 10 * t) flips) (sym same_ticks) within));
+      opened =
+          subst (λ (l : List Pair). AreOpened (IsOpened link flips c.args.ticks) l
+          (c.loop-lane.lane + 1)) (sym items)
+          (opened-more (IsOpened link flips c.args.ticks) c.loop-lane.pairs.items c.loop-lane.lane
+          c.in_ok-pair.pair (record {
+            begins = λ s same_link same_flips same_ticks. c.in_ok-pair.ensures.begins s same_link
+                (c.in_ok-inverted.ensures.inverted s (10 * s.ticks) same_flips
+                (subst (λ t. All (λ (f : Flip). f.first + f.count ≤ 10 * t) flips)
+                (sym same_ticks) within));
             same = c.in_ok-pair.ensures.next.0;
             next = c.in_ok-pair.ensures.next.1;
           }) c.loop-lane.invariant.opened);
@@ -43,8 +52,11 @@ returns-clause-begins c s same_link same_flips same_ticks =
     let count = c.loop-lane.invariant.opened.count in
     let lanes = c.lanes-lane-end.ensures.value in
     let own = ap (λ k. k.l) c.shape.ensures.same in
-    let same = ap (λ (k : Link). k.params.l) same_link in
-    (omega arith, λ lane d below. (c.loop-lane.invariant.opened.each lane d (omega arith)).begins s same_link same_flips same_ticks)
+    let same = ap (λ (k : Link). k.params.l) same_link in (
+      omega arith,
+      λ lane d below. (c.loop-lane.invariant.opened.each lane d (omega arith)).begins s
+          same_link same_flips same_ticks,
+    )
 
 pub returns-clause-at : goal.returns-clause-at
 returns-clause-at c lane d below =

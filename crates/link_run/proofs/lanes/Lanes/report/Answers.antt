@@ -16,7 +16,8 @@ loop-lane-preserved c =
     let count = c.requires in
     let lanes = c.self.inside.pairs.items in
     let below : c.loop-lane.lane < length lanes = omega arith in
-    written-more IsReport lanes c.loop-lane.reports c.loop-lane.lane x x c.report.result below (omega arith) c.index.ensures
+    written-more IsReport lanes c.loop-lane.reports c.loop-lane.lane x x c.report.result below
+    (omega arith) c.index.ensures
     (record { is = c.report.ensures }) c.loop-lane.invariant
 
 pub returns : goal.returns
@@ -25,6 +26,8 @@ returns c s runs run =
     let same = ap length c.self.view_is in
     let written = c.loop-lane.auto.reports in
     let count = c.requires in
-    all-written IsReport c.self.inside.pairs.items c.loop-lane.reports c.loop-lane.lane s runs (λ lane. report_b s.link.params s.link.timing lane (runs lane).taken)
+    all-written IsReport c.self.inside.pairs.items c.loop-lane.reports c.loop-lane.lane s runs
+    (λ lane. report_b s.link.params s.link.timing lane (runs lane).taken)
     c.loop-lane.invariant (omega arith) (omega arith)
-    (subst (λ (l : List Pair). HaveRun l s runs) (sym c.self.view_is) run) (λ k x y done h. done.is s k (runs k) h)
+    (subst (λ (l : List Pair). HaveRun l s runs) (sym c.self.view_is) run)
+    (λ k x y done h. done.is s k (runs k) h)

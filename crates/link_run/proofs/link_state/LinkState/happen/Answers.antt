@@ -1,16 +1,16 @@
 use Rattle.std.proofs.Common.{◌∙◌, ◌+◌, ℕ, List, if◌then◌else◌, None, sym, ap, subst}
 use Rattle.link_params.specs.declared.alarms.Device.TheVariants.{Tx, Rx}
 use Rattle.lane_b.specs.Received.{lanes_b}
-use Rattle.link_run.specs.Edges.{is_reset}
+use Rattle.link_model.specs.Edges.{is_reset}
 use Rattle.link_run.specs.Happened.{are_past}
-use Rattle.link_run.specs.Histories.{lane_run}
+use Rattle.link_model.specs.LaneRuns.{lane_run}
 use Rattle.link_run.specs.LaneRuns.{AreAt, Pair}
 use Rattle.link_run.specs.LinkStates.{HasRun, LinkView}
-use Rattle.link_run.specs.Run.{run}
+use Rattle.link_model.specs.Run.{run}
 use Rattle.link_run.specs.Sendings.{next_of}
 use Rattle.link_run.proofs.FeedLemmas.{same_params}
 use Rattle.link_run.proofs.LaneStates.{as-before, have-same, plan-there, ready-is}
-use Rattle.link_run.proofs.TxHistory.{length-run}
+use Rattle.link_model.proofs.TxHistory.{length-run}
 use Rattle.link_run.proofs.link_state.LinkState.happen.Goals as goal
 
 abbrev with_both : ℕ → List Pair → LinkView → LinkView
@@ -18,13 +18,15 @@ with_both n lanes x = record x { next = n; lanes = lanes }
 
 pub happen-happened-requires-clause-from : goal.happen-happened-requires-clause-from
 happen-happened-requires-clause-from c = λ s is.
-    let stands = subst (λ x. HasRun x s (run lanes_b s c.args.t)) (sym c.self.view_is) (c.requires.stands s is) in
+    let stands = subst (λ x. HasRun x s (run lanes_b s c.args.t)) (sym c.self.view_is)
+    (c.requires.stands s is) in
     stands.next ∙ ap (are_past s) (length-run c.args.t s)
 
 pub happen-happened-requires-clause-lanes : goal.happen-happened-requires-clause-lanes
 happen-happened-requires-clause-lanes c =
     let (s, is) = plan-there c.args.s.now c.args.self.now.link c.requires.link in
-    let stands = subst (λ x. HasRun x s (run lanes_b s c.args.t)) (sym c.self.view_is) (c.requires.stands s is) in
+    let stands = subst (λ x. HasRun x s (run lanes_b s c.args.t)) (sym c.self.view_is)
+    (c.requires.stands s is) in
     stands.lanes.0 ∙ ap (λ p. p.l) (same_params c.args.s.now s is)
 
 pub happen-happened-requires-clause-ran : goal.happen-happened-requires-clause-ran
@@ -40,13 +42,21 @@ returns c = λ s is.
     let long = length-run c.args.t s in
     let p = s.link.params in
     let tx_is = c.happen-happened.ensures.tx s is ∙ ap (is_reset s Tx) (sym long) in
-    let lanes = c.happen-happened.ensures.lanes s (λ lane. lane_run s h lane) is stands.lanes (as-before s h c.args.t long) in
+    let lanes = c.happen-happened.ensures.lanes s (λ lane. lane_run s h lane) is stands.lanes
+    (as-before s h c.args.t long) in
     let at = c.happen-happened.ensures.at p (next_of p c.self.inside.tx.sending) stands.at in
     record {
       tx_reset = tx_is;
       rx_reset = c.happen-happened.ensures.rx s is ∙ ap (is_reset s Rx) (sym long);
       next = c.happen-happened.ensures.next s is ∙ ap (λ n. are_past s (n + 1)) (sym long);
-      lanes = have-same _ s _ _ (λ lane below. ready-is s h c.args.t lane c.happen-happened.result.tx_reset long tx_is) (c.clear_if.ensures.goes_on s _ lanes);
-      at = subst (λ x. AreAt c.clear_if.new.lanes p (if c.happen-happened.result.tx_reset then None else next_of p x.tx.sending)) c.self.view_is (c.clear_if.ensures.at p _ at);
+      lanes =
+          have-same _ s _ _
+          (λ lane below. ready-is s h c.args.t lane c.happen-happened.result.tx_reset long tx_is)
+          (c.clear_if.ensures.goes_on s _ lanes);
+      at =
+          subst
+          (λ x. AreAt c.clear_if.new.lanes p
+          (if c.happen-happened.result.tx_reset then None else next_of p x.tx.sending))
+          c.self.view_is (c.clear_if.ensures.at p _ at);
       same = ap (with_both c.happen-happened.result.next c.clear_if.new.lanes) c.self.view_is;
     }

@@ -6,63 +6,81 @@ use Rattle.bring_up.specs.Controls.{HasDecided, NamesOctet}
 use Rattle.bring_up.specs.Decisions.{decide_at}
 use Rattle.lane_b.specs.Received.{lanes_b, report_b}
 use Rattle.scenario.specs.Plans.{Plan, numbers_from}
-use Rattle.link_run.specs.Run.{run}
-use Rattle.link_run.specs.Histories.{lane_stepped}
-use Rattle.link_run.specs.LaneRuns.{HaveRun, LaneRun, Pair}
+use Rattle.link_model.specs.Run.{run}
+use Rattle.link_model.specs.LaneRuns.{lane_stepped}
+use Rattle.link_run.specs.LaneRuns.{HaveRun, Pair}
+use Rattle.link_model.specs.LaneRuns.{LaneRun}
 use Rattle.link_run.specs.ReceiverRuns.{HasToldTick, decisions_left}
-use Rattle.link_run.proofs.Depth.{length-reports}
+use Rattle.link_model.proofs.Depth.{length-reports}
 use Rattle.link_run.proofs.FeedLemmas.{some_plan}
-use Rattle.link_run.proofs.LaneHistory.{has-hunt-run, took-stepped}
+use Rattle.link_model.proofs.LaneHistory.{has-hunt-run, took-stepped}
 use Rattle.link_run.proofs.NamedOctets.{names-octets}
-use Rattle.link_run.proofs.NextMoment.{lanes_of, next, reports-next, took}
-use Rattle.link_run.proofs.NumberLists.{map-numbers}
-use Rattle.link_run.proofs.RxHistory.{standing-next}
+use Rattle.link_model.proofs.NextMoment.{lanes_of, next, reports-next, took}
+use Rattle.link_model.proofs.NumberLists.{map-numbers}
+use Rattle.link_model.proofs.RxHistory.{standing-next}
 use Rattle.link_run.proofs.receiver.Receiver.decide.Goals as goal
 
 -- the reports of the lanes that were stepped are those of the tick
-reports-stepped : (s : Plan) (t : ℕ) → map (λ l. report_b s.link.params s.link.timing l (lane_stepped s (run lanes_b s t) l).taken) (lanes_of s) ≡ (next s (run lanes_b s t)).reports
+reports-stepped : (s : Plan) (t : ℕ)
+    → map (λ l. report_b s.link.params s.link.timing l (lane_stepped s (run lanes_b s t) l).taken)
+    (lanes_of s) ≡ (next s (run lanes_b s t)).reports
 reports-stepped s t =
     let h = run lanes_b s t in
-    map-numbers (λ l. report_b s.link.params s.link.timing l (lane_stepped s h l).taken) (λ l. report_b s.link.params s.link.timing l (took s h l)) s.link.params.l 0
-    (λ l below. ap (report_b s.link.params s.link.timing l) (sym (took-stepped s h l (has-hunt-run t s))))
+    map-numbers (λ l. report_b s.link.params s.link.timing l (lane_stepped s h l).taken)
+    (λ l. report_b s.link.params s.link.timing l (took s h l)) s.link.params.l 0
+    (λ l below. ap (report_b s.link.params s.link.timing l)
+    (sym (took-stepped s h l (has-hunt-run t s))))
     ∙ sym (reports-next s h)
 
 -- the reports that were written are those of the tick
-written : (s : Plan) (t : ℕ) (lanes : List Pair) (reports new : List LaneReport) → HaveRun lanes s (lane_stepped s (run lanes_b s t))
-    → ((q : Plan) (runs : ℕ → LaneRun) → HaveRun lanes q runs → new ≡ map (λ lane. report_b q.link.params q.link.timing lane (runs lane).taken) (numbers_from 0 q.link.params.l))
+written : (s : Plan) (t : ℕ) (lanes : List Pair) (reports new : List LaneReport)
+    → HaveRun lanes s (lane_stepped s (run lanes_b s t))
+    → ((q : Plan) (runs : ℕ → LaneRun) → HaveRun lanes q runs
+    → new ≡ map (λ lane. report_b q.link.params q.link.timing lane (runs lane).taken)
+    (numbers_from 0 q.link.params.l))
     → new ≡ (next s (run lanes_b s t)).reports
-written s t lanes reports new ran wrote = wrote s (lane_stepped s (run lanes_b s t)) ran ∙ reports-stepped s t
+written s t lanes reports new ran wrote = wrote s (lane_stepped s (run lanes_b s t)) ran
+    ∙ reports-stepped s t
 
 named : (s : Plan) (t : ℕ) → All (NamesOctet s.link.params) (next s (run lanes_b s t)).reports
 named s t =
     let h = run lanes_b s t in
-    subst (All (NamesOctet s.link.params)) (sym (reports-next s h)) (names-octets s.link.params s.link.timing (took s h) (lanes_of s))
+    subst (All (NamesOctet s.link.params)) (sym (reports-next s h))
+    (names-octets s.link.params s.link.timing (took s h) (lanes_of s))
 
 pub report-requires : goal.report-requires
 report-requires c =
     let (s, is) = some_plan c.args.s.now c.requires.link in
-    let told = subst (λ x. HasToldTick x s (run lanes_b s c.args.t)) (sym c.self.view_is) (c.requires.told s is) in
+    let told = subst (λ x. HasToldTick x s (run lanes_b s c.args.t)) (sym c.self.view_is)
+    (c.requires.told s is) in
     let ran = c.requires.lanes s is in
     ap length c.deref_mut.ensures.value ∙ told.lanes ∙ sym ran.0
 
 pub decide-requires-clause-reports : goal.decide-requires-clause-reports
 decide-requires-clause-reports c =
     let (s, is) = some_plan c.args.s.now c.requires.link in
-    let told = subst (λ x. HasToldTick x s (run lanes_b s c.args.t)) (sym c.self.view_is) (c.requires.told s is) in
-    let wrote = written s c.args.t c.args.lanes.now c.self.inside.reports.items c.report.new.reports (c.requires.lanes s is) c.report.ensures in
+    let told = subst (λ x. HasToldTick x s (run lanes_b s c.args.t)) (sym c.self.view_is)
+    (c.requires.told s is) in
+    let wrote = written s c.args.t c.args.lanes.now c.self.inside.reports.items c.report.new.reports
+    (c.requires.lanes s is) c.report.ensures in
     let long = ap length wrote ∙ length-reports s (run lanes_b s c.args.t) in
     let size = c.self.inside.reports.ok.0 ∙ told.lanes in
-    ap length (c.deref.ensures.value ∙ with_items_is c.self.inside.reports c.report.new.reports (long ∙ sym size)) ∙ long ∙ ap (λ p. p.l) (sym told.control.params)
+    ap length (c.deref.ensures.value ∙ with_items_is c.self.inside.reports c.report.new.reports
+    (long ∙ sym size)) ∙ long ∙ ap (λ p. p.l) (sym told.control.params)
 
 pub decide-requires-clause-octets : goal.decide-requires-clause-octets
 decide-requires-clause-octets c =
     let (s, is) = some_plan c.args.s.now c.requires.link in
-    let told = subst (λ x. HasToldTick x s (run lanes_b s c.args.t)) (sym c.self.view_is) (c.requires.told s is) in
-    let wrote = written s c.args.t c.args.lanes.now c.self.inside.reports.items c.report.new.reports (c.requires.lanes s is) c.report.ensures in
+    let told = subst (λ x. HasToldTick x s (run lanes_b s c.args.t)) (sym c.self.view_is)
+    (c.requires.told s is) in
+    let wrote = written s c.args.t c.args.lanes.now c.self.inside.reports.items c.report.new.reports
+    (c.requires.lanes s is) c.report.ensures in
     let long = ap length wrote ∙ length-reports s (run lanes_b s c.args.t) in
     let size = c.self.inside.reports.ok.0 ∙ told.lanes in
-    let items = c.deref.ensures.value ∙ with_items_is c.self.inside.reports c.report.new.reports (long ∙ sym size) ∙ wrote in
-    subst (λ p. All (NamesOctet p) c.deref.result.now) (sym told.control.params) (subst (All (NamesOctet s.link.params)) (sym items) (named s c.args.t))
+    let items = c.deref.ensures.value ∙ with_items_is c.self.inside.reports c.report.new.reports
+    (long ∙ sym size) ∙ wrote in
+    subst (λ p. All (NamesOctet p) c.deref.result.now) (sym told.control.params)
+    (subst (All (NamesOctet s.link.params)) (sym items) (named s c.args.t))
 
 pub returns : goal.returns
 returns c = λ s is.
@@ -70,16 +88,20 @@ returns c = λ s is.
     let t = s.link.timing in
     let h = run lanes_b s c.args.t in
     let told = subst (λ x. HasToldTick x s h) (sym c.self.view_is) (c.requires.told s is) in
-    let wrote = written s c.args.t c.args.lanes.now c.self.inside.reports.items c.report.new.reports (c.requires.lanes s is) c.report.ensures in
+    let wrote = written s c.args.t c.args.lanes.now c.self.inside.reports.items c.report.new.reports
+    (c.requires.lanes s is) c.report.ensures in
     let long = ap length wrote ∙ length-reports s h in
     let size = c.self.inside.reports.ok.0 ∙ told.lanes in
     let held = with_items_is c.self.inside.reports c.report.new.reports (long ∙ sym size) in
     let items = c.deref.ensures.value ∙ held ∙ wrote in
     let stands = sym (standing-next s h) in
     record {
-      decision_due = c.decide.ensures.decision p t (decisions_left s h) told.control ∙ ap₂ (λ x r. (decide_at p t x r).decision) stands items;
-      alarms = c.decide.ensures.alarms p t (decisions_left s h) told.control ∙ ap₂ (λ x r. (decide_at p t x r).alarms) stands items;
-      control = subst (λ r. HasDecided c.decide.new.self p t (decisions_left s h ++ r ∷ [])) items (c.decide.ensures.goes_on p t (decisions_left s h) told.control);
+      decision_due = c.decide.ensures.decision p t (decisions_left s h) told.control
+          ∙ ap₂ (λ x r. (decide_at p t x r).decision) stands items;
+      alarms = c.decide.ensures.alarms p t (decisions_left s h) told.control
+          ∙ ap₂ (λ x r. (decide_at p t x r).alarms) stands items;
+      control = subst (λ r. HasDecided c.decide.new.self p t (decisions_left s h ++ r ∷ [])) items
+          (c.decide.ensures.goes_on p t (decisions_left s h) told.control);
       same_clock = ap (λ x. x.clock) c.self.view_is;
       lanes = ap length held ∙ long;
     }

@@ -1,6 +1,6 @@
 use Rattle.std.proofs.Common.{◌≡◌, ◌∙◌, [], true, sym, ap, subst, refl}
 use Rattle.bring_up.specs.Controls.{HasDecided}
-use Rattle.link_run.specs.Run.{ends_in_hunt}
+use Rattle.link_model.specs.Hunts.{ends_in_hunt}
 use Rattle.link_run.proofs.PlanFacts.{plan-facts}
 use Rattle.link_run.proofs.receiver.Receiver.open.Goals as goal
 
@@ -15,8 +15,10 @@ returns c = record {
       record {
         clock = c.new.ensures.begins s same (facts.jitters ∙ sym c.deref.ensures.value);
         device = c.new.ensures.device;
-        control = subst (λ k. HasDecided c.new-2.result k.params k.timing []) (sym same) c.new-2.ensures;
+        control = subst (λ k. HasDecided c.new-2.result k.params k.timing [])
+            (sym same) c.new-2.ensures;
         hunts = sym hunts-first;
-        lanes = sym c.in-Ok.reports.ok.0 ∙ c.in-Ok.ensures.len ∙ c.lanes.ensures.value ∙ ap (λ p. p.l) c.shape.ensures.same ∙ ap (λ k. k.params.l) (sym same);
+        lanes = sym c.in-Ok.reports.ok.0 ∙ c.in-Ok.ensures.len ∙ c.lanes.ensures.value
+            ∙ ap (λ p. p.l) c.shape.ensures.same ∙ ap (λ k. k.params.l) (sym same);
       };
 }

@@ -4,13 +4,14 @@ use Rattle.link_params.specs.declared.orders.RxOrder.{RxOrder}
 use Rattle.bring_up.specs.Controls.{HasDecided}
 use Rattle.bring_up.specs.Decisions.{is_hunting}
 use Rattle.link_run.specs.Clocked.{HasRunTo}
-use Rattle.link_run.specs.Edges.{is_reset, off, phase}
-use Rattle.link_run.specs.Run.{is_at, offset_at, told_of}
-use Rattle.link_run.specs.Histories.{decisions_before}
+use Rattle.link_model.specs.Edges.{is_reset, off, phase}
+use Rattle.link_model.specs.Run.{is_at}
+use Rattle.link_model.specs.Receives.{offset_at, told_of}
+use Rattle.link_model.specs.Before.{decisions_before}
 use Rattle.link_run.specs.ReceiverRuns.{HasReceivedRun}
-use Rattle.link_run.proofs.NextMoment.{decides-next}
+use Rattle.link_model.proofs.NextMoment.{decides-next}
 use Rattle.link_run.proofs.PlanFacts.{plan-facts}
-use Rattle.link_run.proofs.RxHistory.{standing-next}
+use Rattle.link_model.proofs.RxHistory.{standing-next}
 use Rattle.link_run.proofs.receiver.Receiver.tell.Goals as goal
 
 abbrev order_with : Bool → Bool → ℕ → RxOrder
@@ -28,20 +29,29 @@ returns c = λ s h is same stands_view at reset.
     let clocked = subst (λ n. HasRunTo c.self.inside.clock s n) (sym at) stands.clock in
     let reset_of = reset ∙ ap (λ d. is_reset s d c.args.t) (sym stands.device) in
     let told = c.tick-clock.ensures.answer s clocked jitters reset_of in
-    let phase_is : c.tick-clock.result.phase ≡ phase s Rx (length h) = ap (λ x. x.phase) told ∙ ap₂ (phase s) stands.device at in
+    let phase_is : c.tick-clock.result.phase ≡ phase s Rx (length h) = ap (λ x. x.phase) told
+    ∙ ap₂ (phase s) stands.device at in
     let reset_now = reset ∙ ap (is_reset s Rx) at in
-    let left = c.reset_if.ensures s.link.params s.link.timing (decisions_before s h) stands.control in
-    let decided = subst (λ b. HasDecided c.reset_if.new.control s.link.params s.link.timing (if b then [] else decisions_before s h)) reset_now left in
+    let left = c.reset_if.ensures s.link.params s.link.timing (decisions_before s h)
+    stands.control in
+    let decided =
+    subst (λ b. HasDecided c.reset_if.new.control s.link.params s.link.timing
+    (if b then [] else decisions_before s h)) reset_now left in
     let low = c.sync_low.ensures s.link.params s.link.timing _ decided in
     let timing = c.timing.ensures.same ∙ ap (λ k. k.timing) (sym same) in
     record {
       off = ap (λ x. x.off) told ∙ ap₂ (off s) stands.device at;
-      told = told-by _ _ _ _ _ _ (c.either.ensures ∙ ap₂ (λ (a b : Bool). a || b) reset_now stands.hunts)
+      told =
+          told-by _ _ _ _ _ _
+          (c.either.ensures ∙ ap₂ (λ (a b : Bool). a || b) reset_now stands.hunts)
           (ap not (low ∙ ap (λ x. is_hunting x.stage) (sym (standing-next s h))))
           (c.offset_of.ensures ∙ ap₂ (λ k x. offset_at k.params k.timing x) (sym same) phase_is);
-      decides = c.is_at.ensures ∙ ap₂ is_at phase_is (ap (λ t. t.rbd) timing) ∙ sym (decides-next s h);
+      decides = c.is_at.ensures ∙ ap₂ is_at phase_is (ap (λ t. t.rbd) timing)
+          ∙ sym (decides-next s h);
       after = record {
-        clock = subst (λ n. HasRunTo c.tick-clock.new.self s (n + 1)) at (c.tick-clock.ensures.goes_on s clocked jitters reset_of);
+        clock =
+            subst (λ n. HasRunTo c.tick-clock.new.self s (n + 1)) at (c.tick-clock.ensures.goes_on s
+            clocked jitters reset_of);
         device = c.tick-clock.ensures.same ∙ stands.device;
         control = decided;
         lanes = stands.lanes;

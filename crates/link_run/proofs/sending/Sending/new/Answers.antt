@@ -1,5 +1,5 @@
 use Rattle.std.proofs.Common.{refl}
-use Rattle.link_run.specs.Orders.{after_low}
+use Rattle.link_model.specs.Orders.{after_low}
 use Rattle.link_run.proofs.sending.Sending.new.Goals as goal
 
 pub returns-clause-begins : goal.returns-clause-begins

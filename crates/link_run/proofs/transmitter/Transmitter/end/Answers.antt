@@ -2,9 +2,10 @@ use Rattle.std.proofs.Common.{◌≡◌, ◌∙◌, ◌+◌, arith, [], ◌∷�
 use Rattle.link_run.specs.Clocked.{HasRunTo}
 use Rattle.link_run.specs.Seen.{HasSynced}
 use Rattle.link_run.specs.Sendings.{HasObserved}
-use Rattle.link_run.specs.Transmitters.{HasSentTick, levels_after}
-use Rattle.link_run.proofs.NextMoment.{next}
-use Rattle.link_run.proofs.TxHistory.{length-more, lows-more, observed-before-more}
+use Rattle.link_run.specs.Transmitters.{HasSentTick}
+use Rattle.link_model.specs.Before.{levels_after}
+use Rattle.link_model.proofs.NextMoment.{next}
+use Rattle.link_model.proofs.TxHistory.{length-more, lows-more, observed-before-more}
 use Rattle.link_run.proofs.transmitter.Transmitter.end.Goals as goal
 
 pub returns-clause-ended : goal.returns-clause-ended
@@ -16,7 +17,9 @@ returns-clause-ended c = λ s h stands_view low.
     record {
       clock = subst (λ n. HasRunTo c.self.inside.clock s n) one stands.clock;
       device = stands.device;
-      sync = subst (λ l. HasSynced c.push.new.self s.link.timing.sync_delay l) (ap (λ b. levels_after h ++ b ∷ []) low ∙ sym (lows-more h m)) pushed;
-      sending = subst (λ l. HasObserved c.self.inside.sending s.link.params l) (sym (observed-before-more s h m)) stands.sending;
+      sync = subst (λ l. HasSynced c.push.new.self s.link.timing.sync_delay l)
+          (ap (λ b. levels_after h ++ b ∷ []) low ∙ sym (lows-more h m)) pushed;
+      sending = subst (λ l. HasObserved c.self.inside.sending s.link.params l)
+          (sym (observed-before-more s h m)) stands.sending;
       feed = stands.feed;
     }

@@ -4,15 +4,17 @@ use Rattle.link_params.proofs.LawFacts.{timely}
 use Rattle.link_run.specs.Seen.{HasSynced}
 use Rattle.link_run.specs.Sendings.{HasObserved}
 use Rattle.link_run.proofs.PlanFacts.{plan-facts}
-use Rattle.link_run.proofs.TxHistory.{observed-before-none}
+use Rattle.link_model.proofs.TxHistory.{observed-before-none}
 use Rattle.link_run.proofs.transmitter.Transmitter.open.Goals as goal
 
 pub open-requires : goal.open-requires
 open-requires c =
     let k = c.args.link.now in
     let small = (timely k.params k.timing c.timing.ensures.legal).sync_delay in
-    let same : c.timing.result.sync_delay ≡ k.timing.sync_delay = ap (λ t. t.sync_delay) c.timing.ensures.same in
-    let value : c.period-period.result ≡ period k.params = c.period-period.ensures.value ∙ ap period c.shape.ensures.same in
+    let same : c.timing.result.sync_delay ≡ k.timing.sync_delay =
+    ap (λ t. t.sync_delay) c.timing.ensures.same in
+    let value : c.period-period.result ≡ period k.params = c.period-period.ensures.value
+    ∙ ap period c.shape.ensures.same in
     let high = c.period-period.ensures.high in
     omega arith
 
@@ -23,7 +25,9 @@ returns-clause-begins c = λ s is same.
     record {
       clock = c.new.ensures.begins s same (facts.jitters ∙ sym c.deref.ensures.value);
       device = c.new.ensures.device;
-      sync = subst (λ n. HasSynced c.in_ok-open.field-0 n []) (ap (λ t. t.sync_delay) delay) c.in_ok-open.ensures;
-      sending = subst (λ l. HasObserved c.new-2.result s.link.params l) (sym (observed-before-none s)) (c.new-2.ensures.begins s.link.params);
+      sync = subst (λ n. HasSynced c.in_ok-open.field-0 n []) (ap (λ t. t.sync_delay) delay)
+          c.in_ok-open.ensures;
+      sending = subst (λ l. HasObserved c.new-2.result s.link.params l)
+          (sym (observed-before-none s)) (c.new-2.ensures.begins s.link.params);
       feed = c.in_ok-open-2.ensures s is;
     }

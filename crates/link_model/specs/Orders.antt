@@ -1,5 +1,6 @@
--- What the transmitter sends in a tick, by its phases and by what it saw of SYNC~ since its reset (JESD204B.01 clauses 5.3.3.1 code
--- group synchronization and 5.3.3.5 initial lane alignment; JESD204C.1, 64b/66b link layer).
+-- What the transmitter sends in a tick, by its phases and by what it saw of SYNC~ since its reset
+-- (JESD204B.01 clauses 5.3.3.1 code group synchronization and 5.3.3.5 initial lane alignment;
+-- JESD204C.1, 64b/66b link layer).
 -- Code: a counter.
 use Rattle.std.specs.Prelude.{ℕ, ◌-◌, ◌*◌, ◌%◌, ◌==◌, nat_lt, Bool, false, if◌then◌else◌, List, [], ◌∷◌, length, Option, Some, None, is_some, unwrap_or}
 use Rattle.link_params.specs.declared.fields.Params.{Params}
@@ -37,11 +38,13 @@ since_boundary hs = from_boundary (unwrap_or (after_low hs) [])
 
 -- n ticks after that boundary: the alignment sequence, then data
 abbrev pub after_boundary : Params → ℕ → TxOrder
-after_boundary p n = if nat_lt n (4 * period p) then Ilas n else Data (n % period p) (n == 4 * period p)
+after_boundary p n = if nat_lt n (4 * period p) then Ilas n else Data (n % period p)
+    (n == 4 * period p)
 
 -- 8b/10b lanes send /K/ until then
 abbrev pub order_b : Params → List Observed → TxOrder
-order_b p hs = let n = length (since_boundary hs) in if n == 0 then Comma else after_boundary p (n - 1)
+order_b p hs = let n = length (since_boundary hs) in if n == 0 then Comma else after_boundary p
+    (n - 1)
 
 -- the ticks from the first edge on
 unfoldable pub from_edge : List Observed → List Observed
@@ -50,7 +53,8 @@ from_edge (h ∷ hs) = if is_some h.phase then h ∷ hs else from_edge hs
 
 -- 64b/66b lanes send zero bits until then, and blocks from that tick on
 abbrev pub order_c : Params → List Observed → TxOrder
-order_c p hs = let n = length (from_edge hs) in if n == 0 then Silent else Block ((n - 1) % period p) (n == 1)
+order_c p hs = let n = length (from_edge hs) in
+    if n == 0 then Silent else Block ((n - 1) % period p) (n == 1)
 
 -- the order of the last of all ticks since the reset
 unfoldable pub tx_order : Params → List Observed → TxOrder

@@ -1,4 +1,5 @@
--- The cells among the entries of a session: none for the places of the alignment sequence, then data.
+-- The cells among the entries of a session: none for the places of the alignment sequence, then
+-- data.
 use Rattle.std.proofs.Common.{◌≡◌, ℕ, zero, suc, ◌+◌, ◌-◌, ◌<◌, ◌≤◌, ◌⊎◌, List, [], ◌∷◌, ◌++◌, map, replicate, length, take, get_or, Some, None, inl, inr, refl, sym, ap, ap₂, ◌∙◌, length-append, arith}
 use Rattle.std.proofs.Math.Seq.{take-nil}
 use Rattle.std.proofs.lemmas.List.{length-map, length-replicate}
@@ -8,8 +9,8 @@ use Rattle.link_params.specs.Lanes.{Entry, Placed, Held}
 use Rattle.lane_b.specs.Gives.{given}
 use Rattle.lane_b.specs.Loss.{ilas_length}
 use Rattle.lane_b.proofs.LaneEntries.{AreEntries}
-use Rattle.link_run.specs.Gathered.{no_cell}
-use Rattle.link_run.specs.Run.{cells_in}
+use Rattle.link_model.specs.Before.{no_cell}
+use Rattle.link_model.specs.Gives.{cells_in}
 
 abbrev shape : ℕ → List LaneCell → List Entry
 shape k cs = replicate k Placed ++ map Held cs
@@ -31,25 +32,31 @@ unfolding cells_in
 cells-all zero cs = cells-held cs
 cells-all (suc k) cs = cells-all k cs
 
-cells-first : (k : ℕ) (cs : List LaneCell) (n : ℕ) → cells_in (take n (shape k cs)) ≡ take (n - k) cs
+cells-first : (k : ℕ) (cs : List LaneCell) (n : ℕ)
+    → cells_in (take n (shape k cs)) ≡ take (n - k) cs
 unfolding cells_in
 cells-first zero cs n = let e : n ≡ n - 0 = omega arith in cells-taken cs n ∙ ap (λ m. take m cs) e
 cells-first (suc k) cs zero = let e : 0 ≡ 0 - suc k = omega arith in ap (λ m. take m cs) e
-cells-first (suc k) cs (suc n) = let e : n - k ≡ suc n - suc k = omega arith in cells-first k cs n ∙ ap (λ m. take m cs) e
+cells-first (suc k) cs (suc n) = let e : n - k ≡ suc n - suc k = omega arith in cells-first k cs n
+    ∙ ap (λ m. take m cs) e
 
-given-held : (cs : List LaneCell) (n : ℕ) → n < length cs → given (get_or (map Held cs) n Placed) ≡ Some (get_or cs n no_cell)
+given-held : (cs : List LaneCell) (n : ℕ) → n < length cs
+    → given (get_or (map Held cs) n Placed) ≡ Some (get_or cs n no_cell)
 given-held [] n below = absurd (omega arith)
 given-held (c ∷ cs) zero below = refl
 given-held (c ∷ cs) (suc n) below = given-held cs n (omega arith)
 
-given-late : (k : ℕ) (cs : List LaneCell) (n : ℕ) → k ≤ n → n < k + length cs → given (get_or (shape k cs) n Placed) ≡ Some (get_or cs (n - k) no_cell)
-given-late zero cs n low high = let e : n ≡ n - 0 = omega arith in given-held cs n (omega arith) ∙ ap (λ m. Some (get_or cs m no_cell)) e
+given-late : (k : ℕ) (cs : List LaneCell) (n : ℕ) → k ≤ n → n < k + length cs
+    → given (get_or (shape k cs) n Placed) ≡ Some (get_or cs (n - k) no_cell)
+given-late zero cs n low high = let e : n ≡ n - 0 = omega arith in given-held cs n (omega arith)
+    ∙ ap (λ m. Some (get_or cs m no_cell)) e
 given-late (suc k) cs zero low high = absurd (omega arith)
 given-late (suc k) cs (suc n) low high =
     let e : n - k ≡ suc n - suc k = omega arith in
     given-late k cs n (omega arith) (omega arith) ∙ ap (λ m. Some (get_or cs m no_cell)) e
 
-given-early : (k : ℕ) (cs : List LaneCell) (n : ℕ) → n < k → given (get_or (shape k cs) n Placed) ≡ None
+given-early : (k : ℕ) (cs : List LaneCell) (n : ℕ) → n < k
+    → given (get_or (shape k cs) n Placed) ≡ None
 given-early zero cs n below = absurd (omega arith)
 given-early (suc k) cs zero below = refl
 given-early (suc k) cs (suc n) below = given-early k cs n (omega arith)
@@ -64,9 +71,12 @@ pub record HasCells (p : Params) (entries : List Entry) : Type 0 where
   pub cells : (n : ℕ) → cells_in (take n entries) ≡ take (n - ilas_length p) (cells_in entries)
   pub many : length entries ≤ ilas_length p + length (cells_in entries)
   pub none : (n : ℕ) → n < ilas_length p → given (get_or entries n Placed) ≡ None
-  pub some : (n : ℕ) → ilas_length p ≤ n → n < length entries → given (get_or entries n Placed) ≡ Some (get_or (cells_in entries) (n - ilas_length p) no_cell)
+  pub some : (n : ℕ) → ilas_length p ≤ n → n < length entries
+      → given (get_or entries n Placed)
+      ≡ Some (get_or (cells_in entries) (n - ilas_length p) no_cell)
 
-cells-of-shape : (p : Params) (k : ℕ) (cs : List LaneCell) → k ≤ ilas_length p → (cs ≡ []) ⊎ (k ≡ ilas_length p) → HasCells p (shape k cs)
+cells-of-shape : (p : Params) (k : ℕ) (cs : List LaneCell) → k ≤ ilas_length p
+    → (cs ≡ []) ⊎ (k ≡ ilas_length p) → HasCells p (shape k cs)
 cells-of-shape p k cs few whole =
     let m : ℕ = ilas_length p in
     let all = cells-all k cs in
@@ -79,18 +89,23 @@ cells-of-shape p k cs few whole =
           let none = ap length empty in
           record {
             cells = λ n.
-                cells-first k cs n ∙ ap (take (n - k)) empty ∙ take-nil (n - k) ∙ sym (take-nil (n - m)) ∙ ap (take (n - m)) (sym (all ∙ empty));
+                cells-first k cs n ∙ ap (take (n - k)) empty ∙ take-nil (n - k)
+                ∙ sym (take-nil (n - m)) ∙ ap (take (n - m)) (sym (all ∙ empty));
             many = omega arith;
-            none = λ n below. ap (λ (l : List LaneCell). given (get_or (shape k l) n Placed)) empty ∙ given-no-data k n;
+            none = λ n below. ap (λ (l : List LaneCell). given (get_or (shape k l) n Placed)) empty
+                ∙ given-no-data k n;
             some = λ n low high. absurd (omega arith);
           }
       | inr full ↦ record {
-        cells = λ n. cells-first k cs n ∙ ap₂ (λ (x : ℕ) (l : List LaneCell). take (n - x) l) full (sym all);
+        cells = λ n. cells-first k cs n ∙ ap₂ (λ (x : ℕ) (l : List LaneCell). take (n - x) l) full
+            (sym all);
         many = omega arith;
         none = λ n below. given-early k cs n (omega arith);
-        some = λ n low high. given-late k cs n (omega arith) (omega arith) ∙ ap₂ (λ (x : ℕ) (l : List LaneCell). Some (get_or l (n - x) no_cell)) full (sym all);
+        some = λ n low high. given-late k cs n (omega arith) (omega arith)
+            ∙ ap₂ (λ (x : ℕ) (l : List LaneCell). Some (get_or l (n - x) no_cell)) full (sym all);
       }
     ]
 
-pub cells-of-entries : (p : Params) (entries : List Entry) → AreEntries p entries → HasCells p entries
+pub cells-of-entries : (p : Params) (entries : List Entry) → AreEntries p entries
+    → HasCells p entries
 cells-of-entries p entries a = rw a.are (cells-of-shape p a.placed a.cells a.few a.whole)

@@ -8,21 +8,24 @@ use Rattle.link_params.specs.declared.lane_report.LaneReport.{LaneReport}
 use Rattle.bring_up.specs.declared.stage.Decision.TheVariants.{Stay}
 use Rattle.bring_up.specs.Decisions.{Standing, after_reports, begin, decide_at, decided, standing_from}
 use Rattle.scenario.specs.Plans.{Plan}
-use Rattle.link_run.specs.Edges.{is_reset, last_reset}
-use Rattle.link_run.specs.Run.{History, Moment, ends_in_hunt, is_hunt, points, standing}
-use Rattle.link_run.specs.Histories.{decisions_before}
-use Rattle.link_run.proofs.NextMoment.{next, with_next, decided-next, stage-next}
-use Rattle.link_run.proofs.TxHistory.{drop-reset, drop-reset-before}
+use Rattle.link_model.proofs.NextMoment.{decided-next, next, stage-next, with_next}
+use Rattle.link_model.proofs.TxHistory.{drop-reset, drop-reset-before}
+use Rattle.link_model.specs.Before.{decisions_before}
+use Rattle.link_model.specs.Edges.{is_reset, last_reset}
+use Rattle.link_model.specs.Hunts.{ends_in_hunt, is_hunt, points, standing}
+use Rattle.link_model.specs.Moments.{History, Moment}
 
 -- ---- standings
 
-pub standing-from-append : (xs : List (List LaneReport)) (p : Params) (t : Timing) (s : Standing) (ys : List (List LaneReport))
+pub standing-from-append : (xs : List (List LaneReport)) (p : Params) (t : Timing) (s : Standing)
+    (ys : List (List LaneReport))
     → standing_from p t s (xs ++ ys) ≡ standing_from p t (standing_from p t s xs) ys
 unfolding standing_from
 standing-from-append [] p t s ys = refl
 standing-from-append (x ∷ xs) p t s ys = standing-from-append xs p t (after_reports p t s x) ys
 
-pub standing-from-more : (p : Params) (t : Timing) (s : Standing) (xs : List (List LaneReport)) (reports : List LaneReport)
+pub standing-from-more : (p : Params) (t : Timing) (s : Standing) (xs : List (List LaneReport))
+    (reports : List LaneReport)
     → standing_from p t s (xs ++ reports ∷ []) ≡ after_reports p t (standing_from p t s xs) reports
 unfolding standing_from
 standing-from-more p t s xs reports = standing-from-append xs p t s (reports ∷ [])
@@ -43,18 +46,22 @@ points-more (x ∷ h) m = elim (cases_Bool x.decides) [
 abbrev pub decisions_kept : Plan → History → List (List LaneReport)
 decisions_kept s h = if is_reset s Rx (length h) then [] else decisions_before s h
 
-pub points-kept : (s : Plan) (h : History) → points (drop (last_reset s Rx (length h)) h) ≡ decisions_kept s h
+pub points-kept : (s : Plan) (h : History)
+    → points (drop (last_reset s Rx (length h)) h) ≡ decisions_kept s h
 points-kept s h =
     ap points (drop-reset s Rx h)
     ∙ elim (cases_Bool (is_reset s Rx (length h))) [ inl e ↦ rw e refl | inr e ↦ rw e refl ]
 
 pub standing-next : (s : Plan) (h : History)
-    → standing s h ≡ standing_from s.link.params s.link.timing begin (if is_reset s Rx (length h) then [] else decisions_before s h)
+    → standing s h ≡ standing_from s.link.params s.link.timing begin
+    (if is_reset s Rx (length h) then [] else decisions_before s h)
 unfolding standing
 standing-next s h = ap (standing_from s.link.params s.link.timing begin) (points-kept s h)
 
 pub decisions-before-more : (s : Plan) (h : History) (m : Moment)
-    → decisions_before s (h ++ m ∷ []) ≡ (if is_reset s Rx (length h) then [] else decisions_before s h) ++ (if m.decides then m.reports ∷ [] else [])
+    → decisions_before s (h ++ m ∷ [])
+    ≡ (if is_reset s Rx (length h) then [] else decisions_before s h)
+    ++ (if m.decides then m.reports ∷ [] else [])
 decisions-before-more s h m =
     ap points (drop-reset-before s Rx h m)
     ∙ points-more (drop (last_reset s Rx (length h)) h) m
@@ -68,16 +75,20 @@ pub standing-after-none : (s : Plan) → standing_after s [] ≡ begin
 unfolding standing_from
 standing-after-none s = refl
 
-pub standing-reset : (s : Plan) (h : History) → is_reset s Rx (length h) ≡ true → standing s h ≡ begin
+pub standing-reset : (s : Plan) (h : History) → is_reset s Rx (length h) ≡ true
+    → standing s h ≡ begin
 unfolding standing_from
 standing-reset s h e = standing-next s h ∙ rw e refl
 
-pub standing-kept : (s : Plan) (h : History) → is_reset s Rx (length h) ≡ false → standing s h ≡ standing_after s h
+pub standing-kept : (s : Plan) (h : History) → is_reset s Rx (length h) ≡ false
+    → standing s h ≡ standing_after s h
 standing-kept s h e = standing-next s h ∙ rw e refl
 
 -- where it stands after a tick
 pub standing-after-more : (s : Plan) (h : History) (m : Moment)
-    → standing_after s (h ++ m ∷ []) ≡ (if m.decides then after_reports s.link.params s.link.timing (standing s h) m.reports else standing s h)
+    → standing_after s (h ++ m ∷ [])
+    ≡ (if m.decides then after_reports s.link.params s.link.timing (standing s h) m.reports else
+    standing s h)
 standing-after-more s h m =
     let p = s.link.params in
     let t = s.link.timing in
@@ -85,18 +96,21 @@ standing-after-more s h m =
     ap (standing_from p t begin) (decisions-before-more s h m)
     ∙ elim (cases_Bool m.decides) [
       | inl e ↦
-          ap (λ (l : List (List LaneReport)). standing_from p t begin (kept ++ l)) (cond-true m.decides (m.reports ∷ []) [] e)
+          ap (λ (l : List (List LaneReport)). standing_from p t begin (kept ++ l))
+          (cond-true m.decides (m.reports ∷ []) [] e)
           ∙ standing-from-more p t begin kept m.reports
           ∙ ap (λ (x : Standing). after_reports p t x m.reports) (sym (standing-next s h))
           ∙ sym (cond-true m.decides (after_reports p t (standing s h) m.reports) (standing s h) e)
       | inr e ↦
-          ap (λ (l : List (List LaneReport)). standing_from p t begin (kept ++ l)) (cond-false m.decides (m.reports ∷ []) [] e)
+          ap (λ (l : List (List LaneReport)). standing_from p t begin (kept ++ l))
+          (cond-false m.decides (m.reports ∷ []) [] e)
           ∙ ap (standing_from p t begin) (append-nil kept)
           ∙ sym (standing-next s h)
           ∙ sym (cond-false m.decides (after_reports p t (standing s h) m.reports) (standing s h) e)
     ]
 
-pub stage-standing : (s : Plan) (h : History) → (next s h).stage ≡ (standing_after s (with_next s h)).stage
+pub stage-standing : (s : Plan) (h : History)
+    → (next s h).stage ≡ (standing_after s (with_next s h)).stage
 stage-standing s h =
     let p = s.link.params in
     let t = s.link.timing in
@@ -106,10 +120,13 @@ stage-standing s h =
     ∙ elim (cases_Bool m.decides) [ inl e ↦ rw e refl | inr e ↦ rw e refl ])
 
 pub decided-is : (s : Plan) (h : History)
-    → (next s h).decided ≡ (if (next s h).decides then decide_at s.link.params s.link.timing (standing s h) (next s h).reports else decided Stay [])
+    → (next s h).decided
+    ≡ (if (next s h).decides then decide_at s.link.params s.link.timing (standing s h)
+    (next s h).reports else decided Stay [])
 decided-is s h = decided-next s h
 
-pub ends-in-hunt-more : (h : History) (m : Moment) → ends_in_hunt (h ++ m ∷ []) ≡ is_hunt m.decided.decision
+pub ends-in-hunt-more : (h : History) (m : Moment)
+    → ends_in_hunt (h ++ m ∷ []) ≡ is_hunt m.decided.decision
 unfolding ends_in_hunt
 ends-in-hunt-more [] m = refl
 ends-in-hunt-more (x ∷ []) m = refl

@@ -14,12 +14,15 @@ use Rattle.bring_up.specs.declared.stage.Decision.TheVariants as decision
 use Rattle.bring_up.specs.Decisions.{Standing, after_decision, decide, is_hunting, is_running}
 use Rattle.lane_b.specs.Received.{entries_b}
 use Rattle.lane_b.specs.Receivers.{AreTens}
-use Rattle.link_run.specs.Run.{is_at, is_hunt, offset_at}
 use Rattle.lane_b.proofs.LaneEntries.{StartsNow, next-started, next-unstarted, started_b}
-use Rattle.link_run.proofs.DecisionCases.{hunt-cases, no_report, run-cases, wait-cases}
-use Rattle.link_run.proofs.WindowFacts.{ComesAfter, IsLegal, comes-after-start, depth-is, goes-near, near-offset}
+use Rattle.link_model.proofs.DecisionCases.{hunt-cases, no_report, run-cases, wait-cases}
+use Rattle.link_model.proofs.WindowFacts.{ComesAfter, IsLegal, comes-after-start, depth-is, goes-near, near-offset}
+use Rattle.link_model.specs.Hunts.{is_hunt}
+use Rattle.link_model.specs.Receives.{offset_at}
+use Rattle.link_model.specs.Run.{is_at}
 
--- a lane that started inside at offset f has n entries in phase x, and a release point comes after so many ticks
+-- a lane that started inside at offset f has n entries in phase x, and a release point comes after
+-- so many ticks
 pub record IsOnWay (p : Params) (t : Timing) (x f n : ℕ) : Type 0 where
   pub left : ℕ
   pub some : 1 ≤ left
@@ -66,10 +69,13 @@ LaneIn stage.Run p t phase started n g = InRun p t started n g
 abbrev one_more : Stage → ℕ → ℕ
 one_more after g = g + (if is_running after then 1 else 0)
 
--- what a tick leaves of a lane that gave g entries before; d: the decision, after: the stage after it
-pub record Outcome (p : Params) (t : Timing) (d : Decision) (after : Stage) (phase started : Option ℕ) (n g : ℕ) : Type 0 where
+-- what a tick leaves of a lane that gave g entries before; d: the decision, after: the stage after
+-- it
+pub record Outcome (p : Params) (t : Timing) (d : Decision) (after : Stage)
+    (phase started : Option ℕ) (n g : ℕ) : Type 0 where
   pub hunts : is_hunt d ≡ true → after ≡ stage.Hunt
-  pub goes : is_hunt d ≡ false → LaneIn after p t phase started n (g + (if is_running after then 1 else 0))
+  pub goes : is_hunt d ≡ false
+      → LaneIn after p t phase started n (g + (if is_running after then 1 else 0))
   pub within : g + (if is_running after then 1 else 0) ≤ n
   pub fits : n - (g + (if is_running after then 1 else 0)) ≤ depth p t
   pub gives : is_running after ≡ true → g < n
@@ -89,7 +95,8 @@ at-point (Some x) n e = ap Some (eqb-true x n e)
 
 module _ (p : Params) (t : Timing) (legal : IsLegal p t) where
   -- there is room for one entry more
-  pub room-in : (k : Stage) (phase started : Option ℕ) (n g : ℕ) → LaneIn k p t phase started n g → n - g < depth p t
+  pub room-in : (k : Stage) (phase started : Option ℕ) (n g : ℕ) → LaneIn k p t phase started n g
+      → n - g < depth p t
   room-in stage.Hunt phase started n g h =
       let empty = h.empty in
       let d = depth-is p t legal in
@@ -113,7 +120,8 @@ module _ (p : Params) (t : Timing) (legal : IsLegal p t) where
       let count = h.count in
       omega arith
 
-  to-hunt : (d : Decision) (after : Stage) (phase started : Option ℕ) (n g : ℕ) → d ≡ decision.Hunt → after ≡ stage.Hunt → g ≤ n → n - g ≤ depth p t
+  to-hunt : (d : Decision) (after : Stage) (phase started : Option ℕ) (n g : ℕ) → d ≡ decision.Hunt
+      → after ≡ stage.Hunt → g ≤ n → n - g ≤ depth p t
       → Outcome p t d after phase started n g
   to-hunt d after phase started n g d_is is all few = rw (d_is, is) (record {
     hunts = λ e. refl;
@@ -123,7 +131,8 @@ module _ (p : Params) (t : Timing) (legal : IsLegal p t) where
     gives = λ e. let bad : false ≡ true = e in absurd (cc);
   })
 
-  stays-hunt : (d : Decision) (after : Stage) (phase started : Option ℕ) (n g : ℕ) → after ≡ stage.Hunt → InHunt started n g
+  stays-hunt : (d : Decision) (after : Stage) (phase started : Option ℕ) (n g : ℕ)
+      → after ≡ stage.Hunt → InHunt started n g
       → Outcome p t d after phase started n g
   stays-hunt d after phase started n g is h = rw is (
       let empty = h.empty in
@@ -136,19 +145,30 @@ module _ (p : Params) (t : Timing) (legal : IsLegal p t) where
         gives = λ e. let bad : false ≡ true = e in absurd (cc);
       })
 
-  to-wait : (d : Decision) (after : Stage) (phase started : Option ℕ) (n g : ℕ) → is_hunt d ≡ false → after ≡ stage.Wait → InWait p t phase started n g
+  to-wait : (d : Decision) (after : Stage) (phase started : Option ℕ) (n g : ℕ) → is_hunt d ≡ false
+      → after ≡ stage.Wait → InWait p t phase started n g
       → n ≤ depth p t → Outcome p t d after phase started n g
   to-wait d after phase started n g calm is w few = rw is (
       let gave = w.gave in
       record {
         hunts = λ e. let bad : true ≡ false = sym e ∙ calm in absurd (cc);
-        goes = λ e. record { gave = omega arith; x = w.x; phase_is = w.phase_is; below = w.below; unstarted = w.unstarted; outside = w.outside; inside = w.inside };
+        goes = λ e. record {
+          gave = omega arith;
+          x = w.x;
+          phase_is = w.phase_is;
+          below =
+              w.below;
+          unstarted = w.unstarted;
+          outside = w.outside;
+          inside = w.inside;
+        };
         within = omega arith;
         fits = omega arith;
         gives = λ e. let bad : false ≡ true = e in absurd (cc);
       })
 
-  to-run : (d : Decision) (after : Stage) (phase started : Option ℕ) (n g : ℕ) → is_hunt d ≡ false → after ≡ stage.Run → InRun p t started n (g + 1)
+  to-run : (d : Decision) (after : Stage) (phase started : Option ℕ) (n g : ℕ) → is_hunt d ≡ false
+      → after ≡ stage.Run → InRun p t started n (g + 1)
       → Outcome p t d after phase started n g
   to-run d after phase started n g calm is r = rw is (
       let near = (near-offset p t r.offset legal r.inside).fits in
@@ -162,8 +182,9 @@ module _ (p : Params) (t : Timing) (legal : IsLegal p t) where
       })
 
   -- a tick more in a lane
-  module _ (lane : ℕ) (taken : List Taken) (w : Taken) (tens : AreTens taken) (ten : length w.word ≡ 10) where
-    started : Option ℕ
+  module _ (lane : ℕ) (taken : List Taken) (w : Taken) (tens : AreTens taken)
+      (ten : length w.word ≡ 10) where
+    pub started : Option ℕ
     started = started_b p t lane taken
 
     later : Option ℕ
@@ -172,7 +193,7 @@ module _ (p : Params) (t : Timing) (legal : IsLegal p t) where
     n : ℕ
     n = length (entries_b p t lane taken)
 
-    m : ℕ
+    pub m : ℕ
     m = length (entries_b p t lane (taken ++ w ∷ []))
 
     -- a lane that is not armed
@@ -196,7 +217,8 @@ module _ (p : Params) (t : Timing) (legal : IsLegal p t) where
       inside = λ f e i. let bad : None ≡ Some f = sym none ∙ e in absurd (cc);
     }
 
-    arriving-starts : (x : ℕ) → x < period p → w.order.offset ≡ offset_at p t (Some x) → StartsNow p t lane taken w → Arriving x
+    arriving-starts : (x : ℕ) → x < period p → w.order.offset ≡ offset_at p t (Some x)
+        → StartsNow p t lane taken w → Arriving x
     unfolding later m
     arriving-starts x below offset s =
         let entries = s.entries in
@@ -205,19 +227,30 @@ module _ (p : Params) (t : Timing) (legal : IsLegal p t) where
           outside = λ f e o.
               let is = s.started in
               let same : w.order.offset ≡ f = cc in
-              ap length (entries ∙ cond-false (is_inside t w.order.offset) (s.entry ∷ []) [] (ap (is_inside t) same ∙ o));
+              ap length (entries ∙ cond-false (is_inside t w.order.offset) (s.entry ∷ []) []
+              (ap (is_inside t) same ∙ o));
           inside = λ f e i.
               let is = s.started in
               let same : w.order.offset ≡ f = cc in
               let at : f ≡ offset_at p t (Some x) = sym same ∙ offset in
               let one : length (entries_b p t lane (taken ++ w ∷ [])) ≡ 1 =
-              ap length (entries ∙ cond-true (is_inside t w.order.offset) (s.entry ∷ []) [] (ap (is_inside t) same ∙ i)) in
-              let here : is_inside t (offset_at p t (Some x)) ≡ true = sym (ap (is_inside t) at) ∙ i in
-              let comes : ComesAfter p t x (lat_ticks p t - f) = rw at (comes-after-start p t x legal below here) in
-              record { left = lat_ticks p t - f; short = (near-offset p t f legal i).near; count = omega arith; comes = comes };
+              ap length (entries ∙ cond-true (is_inside t w.order.offset) (s.entry ∷ []) []
+              (ap (is_inside t) same ∙ i)) in
+              let here : is_inside t (offset_at p t (Some x)) ≡ true = sym (ap (is_inside t) at)
+              ∙ i in
+              let comes : ComesAfter p t x (lat_ticks p t - f) =
+              rw at (comes-after-start p t x legal below here) in
+              record {
+                left = lat_ticks p t - f;
+                short = (near-offset p t f legal i).near;
+                count =
+                    omega arith;
+                comes = comes;
+              };
         }
 
-    arriving-started : (phase : Option ℕ) (x g f : ℕ) → InWait p t phase started n g → phase ≡ Some x → started ≡ Some f → Arriving ((x + 1) % period p)
+    arriving-started : (phase : Option ℕ) (x g f : ℕ) → InWait p t phase started n g
+        → phase ≡ Some x → started ≡ Some f → Arriving ((x + 1) % period p)
     unfolding started later n m
     arriving-started phase x g f before phase_is some =
         let more = next-started taken w tens ten p t lane f some in
@@ -235,7 +268,8 @@ module _ (p : Params) (t : Timing) (legal : IsLegal p t) where
               let low = before.below in
               let way = before.inside k (some ∙ ap Some same) i in
               let g = goes-near p t before.x way.left legal low way.some way.short way.comes in
-              let long = ap length (more.inside (ap (is_inside t) same ∙ i)) ∙ length-append (entries_b p t lane taken) (more.entry ∷ []) in
+              let long = ap length (more.inside (ap (is_inside t) same ∙ i))
+              ∙ length-append (entries_b p t lane taken) (more.entry ∷ []) in
               let less = g.less in
               let count = way.count in
               let short = way.short in
@@ -243,12 +277,14 @@ module _ (p : Params) (t : Timing) (legal : IsLegal p t) where
               record { left = g.left; short = omega arith; count = omega arith; comes = comes };
         }
 
-    arriving : (phase : Option ℕ) (x g : ℕ) → InWait p t phase started n g → phase ≡ Some x → w.order.offset ≡ offset_at p t (Some ((x + 1) % period p))
+    arriving : (phase : Option ℕ) (x g : ℕ) → InWait p t phase started n g → phase ≡ Some x
+        → w.order.offset ≡ offset_at p t (Some ((x + 1) % period p))
         → Arriving ((x + 1) % period p)
     unfolding started later m
     arriving phase x g before phase_is offset =
         let some = legal.some in
-        let below : (x + 1) % period p < period p = mod-lt (x + 1) (let pos : 0 < period p = omega arith in pos) in
+        let below : (x + 1) % period p < period p =
+        mod-lt (x + 1) (let pos : 0 < period p = omega arith in pos) in
         elim (cases-start started) [
           | inl k ↦ arriving-started phase x g k.0 before phase_is k.1
           | inr none ↦ elim (next-unstarted taken w tens ten p t lane none) [
@@ -271,7 +307,8 @@ module _ (p : Params) (t : Timing) (legal : IsLegal p t) where
     ]
 
     -- a tick that is no release point
-    still-waits : (next : Option ℕ) (x g : ℕ) → Arriving x → next ≡ Some x → x < period p → (x == t.rbd) ≡ false → g ≡ 0 → InWait p t next later m g
+    still-waits : (next : Option ℕ) (x g : ℕ) → Arriving x → next ≡ Some x → x < period p
+        → (x == t.rbd) ≡ false → g ≡ 0 → InWait p t next later m g
     still-waits next x g a next_is below apart gave = record {
       gave = gave;
       x = x;
@@ -293,35 +330,53 @@ module _ (p : Params) (t : Timing) (legal : IsLegal p t) where
     }
 
     -- a release point
-    all-come : (x f : ℕ) → Arriving x → x ≡ t.rbd → later ≡ Some f → is_inside t f ≡ true → m ≡ lat_ticks p t - f + 1
+    all-come : (x f : ℕ) → Arriving x → x ≡ t.rbd → later ≡ Some f → is_inside t f ≡ true
+        → m ≡ lat_ticks p t - f + 1
     all-come x f a at e i =
         let r = a.inside f e i in
         let short = r.short in
         let count = r.count in
         elim r.comes [ inl h ↦ omega arith | inr h ↦ absurd (omega arith) ]
 
-    module _ (before : Standing) (reports : List LaneReport) (decides : Bool) (d : Decision) (after : Stage)
-        (d_is : d ≡ (if decides then (decide p t before.stage before.since reports).decision else decision.Stay))
-        (after_is : after ≡ (if decides then (after_decision before reports (decide p t before.stage before.since reports).decision).stage else before.stage)) where
+    module _ (before : Standing) (reports : List LaneReport) (decides : Bool) (d : Decision)
+        (after : Stage)
+        (d_is : d
+        ≡ (if decides then (decide p t before.stage before.since reports).decision else
+        decision.Stay))
+        (after_is : after
+        ≡ (if decides then
+        (after_decision before reports
+        (decide p t before.stage before.since reports).decision).stage else before.stage)) where
       off : decides ≡ false → (d ≡ decision.Stay) × (after ≡ before.stage)
       off e = (
-        d_is ∙ cond-false decides (decide p t before.stage before.since reports).decision decision.Stay e,
-        after_is ∙ cond-false decides (after_decision before reports (decide p t before.stage before.since reports).decision).stage before.stage e,
+        d_is ∙ cond-false decides (decide p t before.stage before.since reports).decision
+            decision.Stay e,
+        after_is
+            ∙ cond-false decides
+            (after_decision before reports
+            (decide p t before.stage before.since reports).decision).stage before.stage e,
       )
 
-      on : (k : Decision) → decides ≡ true → (decide p t before.stage before.since reports).decision ≡ k
+      on : (k : Decision) → decides ≡ true → (decide p t before.stage before.since reports).decision
+          ≡ k
           → (d ≡ k) × (after ≡ (after_decision before reports k).stage)
       on k e is = (
-        d_is ∙ cond-true decides (decide p t before.stage before.since reports).decision decision.Stay e ∙ is,
-        after_is ∙ cond-true decides (after_decision before reports (decide p t before.stage before.since reports).decision).stage before.stage e
+        d_is ∙ cond-true decides (decide p t before.stage before.since reports).decision
+            decision.Stay e ∙ is,
+        after_is
+            ∙ cond-true decides
+            (after_decision before reports
+            (decide p t before.stage before.since reports).decision).stage before.stage e
             ∙ ap (λ (q : Decision). (after_decision before reports q).stage) is,
       )
 
-      at-stage : (k : Stage) (e : Decision) → before.stage ≡ k → (decide p t k before.since reports).decision ≡ e
+      at-stage : (k : Stage) (e : Decision) → before.stage ≡ k
+          → (decide p t k before.since reports).decision ≡ e
           → (decide p t before.stage before.since reports).decision ≡ e
       at-stage k e is h = ap (λ (q : Stage). (decide p t q before.since reports).decision) is ∙ h
 
-      hunt-step : (next : Option ℕ) (g : ℕ) → before.stage ≡ stage.Hunt → w.order.armed ≡ not (is_hunting before.stage) → (decides ≡ true → next ≡ Some t.rbd)
+      hunt-step : (next : Option ℕ) (g : ℕ) → before.stage ≡ stage.Hunt
+          → w.order.armed ≡ not (is_hunting before.stage) → (decides ≡ true → next ≡ Some t.rbd)
           → InHunt started n g → Outcome p t d after next later m g
       hunt-step next g is armed next_is h =
           let u = unarmed (armed ∙ ap (λ (q : Stage). not (is_hunting q)) is) h.unstarted in
@@ -329,7 +384,9 @@ module _ (p : Params) (t : Timing) (legal : IsLegal p t) where
           elim (cases_Bool decides) [
             | inr e ↦ stays-hunt d after next later m g ((off e).1 ∙ is) here
             | inl e ↦ elim (hunt-cases p t before.since reports) [
-              | inr c ↦ stays-hunt d after next later m g ((on decision.Stay e (at-stage stage.Hunt decision.Stay is c)).1 ∙ is) here
+              | inr c ↦
+                  stays-hunt d after next later m g
+                  ((on decision.Stay e (at-stage stage.Hunt decision.Stay is c)).1 ∙ is) here
               | inl c ↦
                   let o = on decision.Arm e (at-stage stage.Hunt decision.Arm is c) in
                   let empty = u.1 in
@@ -345,24 +402,38 @@ module _ (p : Params) (t : Timing) (legal : IsLegal p t) where
             ]
           ]
 
-      run-step : (next : Option ℕ) (g : ℕ) → before.stage ≡ stage.Run → InRun p t started n g → Outcome p t d after next later m g
+      run-step : (next : Option ℕ) (g : ℕ) → before.stage ≡ stage.Run → InRun p t started n g
+          → Outcome p t d after next later m g
       unfolding started later n m
       run-step next g is r =
           let more = next-started taken w tens ten p t lane r.offset r.is in
           let near = (near-offset p t r.offset legal r.inside).fits in
           let count = r.count in
-          let long = ap length (more.inside r.inside) ∙ length-append (entries_b p t lane taken) (more.entry ∷ []) in
-          let here : InRun p t later m (g + 1) = record { offset = r.offset; is = more.started; inside = r.inside; count = omega arith } in
+          let long = ap length (more.inside r.inside) ∙ length-append (entries_b p t lane taken)
+          (more.entry ∷ []) in
+          let here : InRun p t later m (g + 1) =
+          record {
+            offset = r.offset;
+            is = more.started;
+            inside = r.inside;
+            count =
+                omega arith;
+          } in
           elim (cases_Bool decides) [
-            | inr e ↦ let o = off e in to-run d after next later m g (ap is_hunt o.0) (o.1 ∙ is) here
+            | inr e ↦ let o = off e in to-run d after next later m g (ap is_hunt o.0)
+                (o.1 ∙ is) here
             | inl e ↦ elim (run-cases p t before.since reports) [
-              | inr c ↦ let o = on decision.Stay e (at-stage stage.Run decision.Stay is c) in to-run d after next later m g (ap is_hunt o.0) (o.1 ∙ is) here
-              | inl c ↦ let o = on decision.Hunt e (at-stage stage.Run decision.Hunt is c) in to-hunt d after next later m g o.0 o.1 (omega arith) (omega arith)
+              | inr c ↦ let o = on decision.Stay e (at-stage stage.Run decision.Stay is c) in
+                  to-run d after next later m g (ap is_hunt o.0) (o.1 ∙ is) here
+              | inl c ↦ let o = on decision.Hunt e (at-stage stage.Run decision.Hunt is c) in
+                  to-hunt d after next later m g o.0 o.1 (omega arith) (omega arith)
             ]
           ]
 
-      wait-step : (phase : Option ℕ) (next : Option ℕ) (x g : ℕ) → before.stage ≡ stage.Wait → phase ≡ Some x → next ≡ Some ((x + 1) % period p)
-          → w.order.offset ≡ offset_at p t next → decides ≡ is_at next t.rbd → lane < length reports → (get_or reports lane no_report).started ≡ later
+      wait-step : (phase : Option ℕ) (next : Option ℕ) (x g : ℕ) → before.stage ≡ stage.Wait
+          → phase ≡ Some x → next ≡ Some ((x + 1) % period p)
+          → w.order.offset ≡ offset_at p t next → decides ≡ is_at next t.rbd → lane < length reports
+          → (get_or reports lane no_report).started ≡ later
           → InWait p t phase started n g → Outcome p t d after next later m g
       wait-step phase next x g is phase_is next_is offset decides_is below report h =
           let y : ℕ = (x + 1) % period p in
@@ -370,24 +441,34 @@ module _ (p : Params) (t : Timing) (legal : IsLegal p t) where
           let low : y < period p = mod-lt (x + 1) (let pos : 0 < period p = omega arith in pos) in
           let a = arriving phase x g h phase_is (offset ∙ ap (offset_at p t) next_is) in
           let few = arriving-fits y a in
-          let at : decides ≡ (y == t.rbd) = decides_is ∙ ap (λ (o : Option ℕ). is_at o t.rbd) next_is in
+          let at : decides ≡ (y == t.rbd) = decides_is
+          ∙ ap (λ (o : Option ℕ). is_at o t.rbd) next_is in
           let gave = h.gave in
           elim (cases_Bool decides) [
             | inr e ↦
                 let o = off e in
-                to-wait d after next later m g (ap is_hunt o.0) (o.1 ∙ is) (still-waits next y g a next_is low (sym at ∙ e) gave) few
+                to-wait d after next later m g (ap is_hunt o.0) (o.1 ∙ is)
+                (still-waits next y g a next_is low (sym at ∙ e) gave) few
             | inl e ↦
                 let now : y ≡ t.rbd = eqb-true y t.rbd (sym at ∙ e) in
                 elim (wait-cases p t before.since reports) [
-                  | inl c ↦ let o = on decision.Hunt e (at-stage stage.Wait decision.Hunt is c) in to-hunt d after next later m g o.0 o.1 (omega arith) (omega arith)
+                  | inl c ↦ let o = on decision.Hunt e (at-stage stage.Wait decision.Hunt is c) in
+                      to-hunt d after next later m g o.0 o.1 (omega arith) (omega arith)
                   | inr more ↦ elim more [
                     | inl r ↦
-                        let o = on decision.Release e (at-stage stage.Wait decision.Release is r.is) in
+                        let o =
+                        on decision.Release e (at-stage stage.Wait decision.Release is r.is) in
                         let own = r.lanes lane below in
                         let begun : later ≡ Some own.offset = sym report ∙ own.is in
                         let all = all-come y own.offset a now begun own.inside in
                         to-run d after next later m g (ap is_hunt o.0) o.1
-                        (record { offset = own.offset; is = begun; inside = own.inside; count = omega arith })
+                        (record {
+                          offset = own.offset;
+                          is = begun;
+                          inside = own.inside;
+                          count =
+                              omega arith;
+                        })
                     | inr k ↦
                         let o = on decision.Stay e (at-stage stage.Wait decision.Stay is k.is) in
                         let none : later ≡ None = sym report ∙ k.lanes lane below in
@@ -405,20 +486,28 @@ module _ (p : Params) (t : Timing) (legal : IsLegal p t) where
                 ]
           ]
 
-      pub lane-step : (phase next : Option ℕ) (g : ℕ) → w.order.armed ≡ not (is_hunting before.stage) → w.order.offset ≡ offset_at p t next
-          → ((x : ℕ) → phase ≡ Some x → before.stage ≡ stage.Wait → next ≡ Some ((x + 1) % period p)) → decides ≡ is_at next t.rbd
-          → lane < length reports → (get_or reports lane no_report).started ≡ started_b p t lane (taken ++ w ∷ [])
-          → LaneIn before.stage p t phase (started_b p t lane taken) (length (entries_b p t lane taken)) g
-          → Outcome p t d after next (started_b p t lane (taken ++ w ∷ [])) (length (entries_b p t lane (taken ++ w ∷ []))) g
+      pub lane-step : (phase next : Option ℕ) (g : ℕ)
+          → w.order.armed ≡ not (is_hunting before.stage) → w.order.offset ≡ offset_at p t next
+          → ((x : ℕ) → phase ≡ Some x → before.stage ≡ stage.Wait
+          → next ≡ Some ((x + 1) % period p)) → decides ≡ is_at next t.rbd
+          → lane < length reports
+          → (get_or reports lane no_report).started ≡ started_b p t lane (taken ++ w ∷ [])
+          → LaneIn before.stage p t phase (started_b p t lane taken)
+          (length (entries_b p t lane taken)) g
+          → Outcome p t d after next (started_b p t lane (taken ++ w ∷ []))
+          (length (entries_b p t lane (taken ++ w ∷ []))) g
       unfolding started later n m
-      lane-step phase next g armed offset goes decides_is below report h = elim (cases-stage before.stage) [
-        | inl is ↦
-            let here : InHunt started n g = rw is at h in
-            hunt-step next g is armed (λ e. at-point next t.rbd (sym decides_is ∙ e)) here
-        | inr more ↦ elim more [
-          | inl is ↦
-              let here : InWait p t phase started n g = rw is at h in
-              wait-step phase next here.x g is here.phase_is (goes here.x here.phase_is is) offset decides_is below report here
-          | inr is ↦ let here : InRun p t started n g = rw is at h in run-step next g is here
-        ]
-      ]
+      lane-step phase next g armed offset goes decides_is below report h =
+          elim (cases-stage before.stage) [
+            | inl is ↦
+                let here : InHunt started n g = rw is at h in
+                hunt-step next g is armed (λ e. at-point next t.rbd (sym decides_is ∙ e)) here
+            | inr more ↦ elim more [
+              | inl is ↦
+                  let here : InWait p t phase started n g = rw is at h in
+                  wait-step phase next here.x g is here.phase_is (goes here.x here.phase_is is)
+                  offset
+                  decides_is below report here
+              | inr is ↦ let here : InRun p t started n g = rw is at h in run-step next g is here
+            ]
+          ]

@@ -1,4 +1,5 @@
--- What the lines of a run do to the bits: the delay in force, dead lanes and inverted bits (this project's own).
+-- What the lines of a run do to the bits: the delay in force, dead lanes and inverted bits (this
+-- project's own).
 use Rattle.std.specs.Prelude.{ℕ, ◌+◌, ◌*◌, ◌%◌, ◌==◌, nat_le, nat_lt, Bool, false, ◌&&◌, if◌then◌else◌, List, count_by, filter, fold}
 use Rattle.link_params.specs.Numbers.{width}
 use Rattle.line_model.specs.LineBits.{line_word}
@@ -24,11 +25,13 @@ first_delay s = s.link.timing.w_lo * width s.link.params
 
 -- the delay of a lane in tick t, in bits: that of the last event for it up to t
 unfoldable pub delay_at : Plan → ℕ → ℕ → ℕ
-delay_at s lane t = fold (λ d (e : Event). if nat_le e.tick t then delay_after lane d e.what else d) (first_delay s) s.events
+delay_at s lane t = fold (λ d (e : Event). if nat_le e.tick t then delay_after lane d e.what else d)
+    (first_delay s) s.events
 
 -- a lane is dead in tick t
 unfoldable pub is_dead : Plan → ℕ → ℕ → Bool
-is_dead s lane t = fold (λ d (e : Event). if nat_le e.tick t then dead_after lane d e.what else d) false s.events
+is_dead s lane t = fold (λ d (e : Event). if nat_le e.tick t then dead_after lane d e.what else d)
+    false s.events
 
 -- so many flips cover received bit i of a lane
 abbrev pub covers : ℕ → ℕ → Flip → Bool

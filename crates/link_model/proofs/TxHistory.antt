@@ -11,20 +11,21 @@ use Rattle.link_params.specs.Numbers.{octets_per_tick, period}
 use Rattle.sample_map.specs.Frames.{frame_of}
 use Rattle.bring_up.specs.Decisions.{is_hunting}
 use Rattle.scenario.specs.Plans.{Plan, numbers_from, source_frame}
-use Rattle.link_run.specs.Edges.{is_reset, last_reset, phase}
-use Rattle.link_run.specs.Orders.{Observed, after_boundary, order_b, since_boundary, tx_order}
-use Rattle.link_run.specs.Run.{History, Moment, begins_frame, beginnings, data_place, frames_before, handed_to, observed, observed_at, octet_of, order_of, run, seen_low}
 use Rattle.lane_b.specs.Received.{lanes_b}
-use Rattle.link_run.specs.Seen.{seen_of}
-use Rattle.link_run.specs.LaneRuns.{octet_handed}
-use Rattle.link_run.specs.Histories.{observed_before, reset_before}
-use Rattle.link_run.specs.Transmitters.{IsOrderB, frame_place}
-use Rattle.link_run.proofs.NumberLists.{length-numbers, get_or-numbers, numbers-to, map-numbers}
-use Rattle.link_run.proofs.NextMoment.{next, with_next, lanes_of, order-next, entered-next, handed-next}
+use Rattle.link_model.proofs.NextMoment.{entered-next, handed-next, lanes_of, next, order-next, with_next}
+use Rattle.link_model.proofs.NumberLists.{get_or-numbers, length-numbers, map-numbers, numbers-to}
+use Rattle.link_model.specs.Before.{IsOrderB, frame_place, observed_before, reset_before, seen_of}
+use Rattle.link_model.specs.Edges.{is_reset, last_reset, phase}
+use Rattle.link_model.specs.LaneRuns.{octet_handed}
+use Rattle.link_model.specs.Moments.{History, Moment}
+use Rattle.link_model.specs.Orders.{Observed, after_boundary, order_b, since_boundary, tx_order}
+use Rattle.link_model.specs.Run.{run}
+use Rattle.link_model.specs.Sends.{beginnings, begins_frame, data_place, frames_before, handed_to, observed, observed_at, octet_of, order_of, seen_low}
 
 -- ---- resets
 
-pub last-reset : (s : Plan) (d : Device) (t : ℕ) → last_reset s d t ≡ (if is_reset s d t then t else reset_before s d t)
+pub last-reset : (s : Plan) (d : Device) (t : ℕ)
+    → last_reset s d t ≡ (if is_reset s d t then t else reset_before s d t)
 unfolding last_reset
 last-reset s d zero = elim (cases_Bool (is_reset s d 0)) [ inl e ↦ rw e refl | inr e ↦ rw e refl ]
 last-reset s d (suc t) = refl
@@ -32,7 +33,8 @@ last-reset s d (suc t) = refl
 pub last-reset-now : (s : Plan) (d : Device) (t : ℕ) → is_reset s d t ≡ true → last_reset s d t ≡ t
 last-reset-now s d t e = last-reset s d t ∙ rw e refl
 
-pub last-reset-before : (s : Plan) (d : Device) (t : ℕ) → is_reset s d t ≡ false → last_reset s d t ≡ reset_before s d t
+pub last-reset-before : (s : Plan) (d : Device) (t : ℕ) → is_reset s d t ≡ false
+    → last_reset s d t ≡ reset_before s d t
 last-reset-before s d t e = last-reset s d t ∙ rw e refl
 
 pub last-reset-le : (s : Plan) (d : Device) (t : ℕ) → last_reset s d t ≤ t
@@ -50,24 +52,30 @@ reset-before-le s d (suc t) = let before = last-reset-le s d t in omega arith
 pub length-more : (h : History) (m : Moment) → length (h ++ m ∷ []) ≡ suc (length h)
 length-more h m = length_push h m ∙ add-one (length h)
 
-pub reset-before-more : (s : Plan) (d : Device) (h : History) (m : Moment) → reset_before s d (length (h ++ m ∷ [])) ≡ last_reset s d (length h)
+pub reset-before-more : (s : Plan) (d : Device) (h : History) (m : Moment)
+    → reset_before s d (length (h ++ m ∷ [])) ≡ last_reset s d (length h)
 reset-before-more s d h m = ap (reset_before s d) (length-more h m)
 
 -- the ticks since the last reset, with a tick more
 pub drop-last-reset : (s : Plan) (d : Device) (h : History) (m : Moment)
     → drop (last_reset s d (length h)) (h ++ m ∷ []) ≡ drop (last_reset s d (length h)) h ++ m ∷ []
-drop-last-reset s d h m = drop-append-le (last_reset s d (length h)) h (m ∷ []) (last-reset-le s d (length h))
+drop-last-reset s d h m = drop-append-le (last_reset s d (length h)) h (m ∷ [])
+    (last-reset-le s d (length h))
 
 pub drop-reset-before : (s : Plan) (d : Device) (h : History) (m : Moment)
-    → drop (reset_before s d (length (h ++ m ∷ []))) (h ++ m ∷ []) ≡ drop (last_reset s d (length h)) h ++ m ∷ []
-drop-reset-before s d h m = ap (λ k. drop k (h ++ m ∷ [])) (reset-before-more s d h m) ∙ drop-last-reset s d h m
+    → drop (reset_before s d (length (h ++ m ∷ []))) (h ++ m ∷ [])
+    ≡ drop (last_reset s d (length h)) h ++ m ∷ []
+drop-reset-before s d h m = ap (λ k. drop k (h ++ m ∷ [])) (reset-before-more s d h m)
+    ∙ drop-last-reset s d h m
 
 -- in a tick with a reset there are none
 pub drop-reset : (s : Plan) (d : Device) (h : History)
-    → drop (last_reset s d (length h)) h ≡ (if is_reset s d (length h) then [] else drop (reset_before s d (length h)) h)
+    → drop (last_reset s d (length h)) h
+    ≡ (if is_reset s d (length h) then [] else drop (reset_before s d (length h)) h)
 drop-reset s d h = elim (cases_Bool (is_reset s d (length h))) [
   | inl e ↦
-      let past : length h ≤ last_reset s d (length h) = rw (last-reset-now s d (length h) e) (omega arith) in
+      let past : length h ≤ last_reset s d (length h) = rw (last-reset-now s d (length h) e)
+      (omega arith) in
       drop_all (last_reset s d (length h)) h past ∙ rw e refl
   | inr e ↦ ap (λ k. drop k h) (last-reset-before s d (length h) e) ∙ rw e refl
 ]
@@ -88,20 +96,26 @@ length-lows h = length-map h (λ m. is_hunting m.stage)
 abbrev pub levels : Plan → History → List Bool
 levels s h = replicate (s.link.timing.sync_delay + 1) true ++ lows h
 
-length-levels : (s : Plan) (h : History) → length (levels s h) ≡ s.link.timing.sync_delay + 1 + length h
-length-levels s h = length-append (replicate (s.link.timing.sync_delay + 1) true) (lows h) ∙ ap₂ (λ a b. a + b) (length-replicate (s.link.timing.sync_delay + 1) true) (length-lows h)
+length-levels : (s : Plan) (h : History)
+    → length (levels s h) ≡ s.link.timing.sync_delay + 1 + length h
+length-levels s h = length-append (replicate (s.link.timing.sync_delay + 1) true) (lows h)
+    ∙ ap₂ (λ a b. a + b) (length-replicate (s.link.timing.sync_delay + 1) true) (length-lows h)
 
-levels-more : (s : Plan) (h : History) (m : Moment) → levels s (h ++ m ∷ []) ≡ levels s h ++ is_hunting m.stage ∷ []
+levels-more : (s : Plan) (h : History) (m : Moment) → levels s (h ++ m ∷ []) ≡ levels s h
+    ++ is_hunting m.stage ∷ []
 levels-more s h m =
     ap (λ l. replicate (s.link.timing.sync_delay + 1) true ++ l) (lows-more h m)
-    ∙ sym (append_assoc (replicate (s.link.timing.sync_delay + 1) true) (lows h) (is_hunting m.stage ∷ []))
+    ∙ sym (append_assoc (replicate (s.link.timing.sync_delay + 1) true) (lows h)
+    (is_hunting m.stage ∷ []))
 
-seen-low-at : (s : Plan) (h : History) (x : ℕ) → x < length h + 1 → get_or (seen_low s h) x true ≡ get_or (levels s h) x true
+seen-low-at : (s : Plan) (h : History) (x : ℕ) → x < length h + 1
+    → get_or (seen_low s h) x true ≡ get_or (levels s h) x true
 unfolding seen_low
 seen-low-at s h x below = get_or-take (length h + 1) (levels s h) x true below
 
 -- in each tick up to the one that comes they stay
-pub seen-low-more : (s : Plan) (h : History) (m : Moment) (x : ℕ) → x ≤ length h → get_or (seen_low s (h ++ m ∷ [])) x true ≡ get_or (seen_low s h) x true
+pub seen-low-more : (s : Plan) (h : History) (m : Moment) (x : ℕ) → x ≤ length h
+    → get_or (seen_low s (h ++ m ∷ [])) x true ≡ get_or (seen_low s h) x true
 seen-low-more s h m x below =
     let long = length_push h m in
     let all = length-levels s h in
@@ -112,47 +126,61 @@ seen-low-more s h m x below =
 
 -- the level in the tick that comes, by the levels alone
 pub seen-low-next : (s : Plan) (h : History)
-    → get_or (seen_low s h) (length h) true ≡ get_or (seen_of s.link.timing.sync_delay (lows h)) (length (lows h)) true
+    → get_or (seen_low s h) (length h) true ≡ get_or (seen_of s.link.timing.sync_delay (lows h))
+    (length (lows h)) true
 unfolding seen_low
 seen-low-next s h = ap (λ (k : ℕ). get_or (take (k + 1) (levels s h)) k true) (sym (length-lows h))
 
-pub observed-at-more : (s : Plan) (h : History) (m : Moment) (x : ℕ) → x ≤ length h → observed_at s (h ++ m ∷ []) x ≡ observed_at s h x
-observed-at-more s h m x below = ap (λ (b : Bool). let o : Observed = record { phase = phase s Tx x; low = b } in o) (seen-low-more s h m x below)
+pub observed-at-more : (s : Plan) (h : History) (m : Moment) (x : ℕ) → x ≤ length h
+    → observed_at s (h ++ m ∷ []) x ≡ observed_at s h x
+observed-at-more s h m x below =
+    ap (λ (b : Bool). let o : Observed = record { phase = phase s Tx x; low = b } in o)
+    (seen-low-more s h m x below)
 
 -- the ticks since the reset, the one that comes at the end
 pub observed-next : (s : Plan) (h : History)
-    → observed s h ≡ (if is_reset s Tx (length h) then [] else observed_before s h) ++ observed_at s h (length h) ∷ []
+    → observed s h ≡ (if is_reset s Tx (length h) then [] else observed_before s h)
+    ++ observed_at s h (length h) ∷ []
 unfolding observed observed_before numbers_from
 observed-next s h =
     let t : ℕ = length h in
-    let all : observed s h ≡ map (observed_at s h) (numbers_from (last_reset s Tx t) (t - last_reset s Tx t)) ++ observed_at s h t ∷ [] =
+    let all : observed s h ≡ map (observed_at s h)
+    (numbers_from (last_reset s Tx t) (t - last_reset s Tx t)) ++ observed_at s h t ∷ [] =
     ap (map (observed_at s h)) (numbers-to (last_reset s Tx t) t (last-reset-le s Tx t))
     ∙ map_push (observed_at s h) (numbers_from (last_reset s Tx t) (t - last_reset s Tx t)) t in
     elim (cases_Bool (is_reset s Tx t)) [
       | inl e ↦
           let none : t - t ≡ 0 = omega arith in
-          all ∙ ap (λ (r : ℕ). map (observed_at s h) (numbers_from r (t - r)) ++ observed_at s h t ∷ []) (last-reset-now s Tx t e)
-          ∙ ap (λ (k : ℕ). map (observed_at s h) (numbers_from t k) ++ observed_at s h t ∷ []) none ∙ rw e refl
+          all ∙ ap (λ (r : ℕ). map (observed_at s h) (numbers_from r (t - r)) ++ observed_at s h t
+          ∷ []) (last-reset-now s Tx t e)
+          ∙ ap (λ (k : ℕ). map (observed_at s h) (numbers_from t k) ++ observed_at s h t ∷ []) none
+          ∙ rw e refl
       | inr e ↦
-          all ∙ ap (λ (r : ℕ). map (observed_at s h) (numbers_from r (t - r)) ++ observed_at s h t ∷ []) (last-reset-before s Tx t e) ∙ rw e refl
+          all ∙ ap (λ (r : ℕ). map (observed_at s h) (numbers_from r (t - r)) ++ observed_at s h t
+          ∷ []) (last-reset-before s Tx t e) ∙ rw e refl
     ]
 
-pub observed-before-more : (s : Plan) (h : History) (m : Moment) → observed_before s (h ++ m ∷ []) ≡ observed s h
+pub observed-before-more : (s : Plan) (h : History) (m : Moment)
+    → observed_before s (h ++ m ∷ []) ≡ observed s h
 unfolding observed observed_before
 observed-before-more s h m =
     let t : ℕ = length h in
     let r : ℕ = last_reset s Tx t in
     let low = last-reset-le s Tx t in
     let long : length (h ++ m ∷ []) ≡ t + 1 = length_push h m in
-    ap₂ (λ (a b : ℕ). map (observed_at s (h ++ m ∷ [])) (numbers_from a (b - a))) (reset-before-more s Tx h m) long
-    ∙ map-numbers (observed_at s (h ++ m ∷ [])) (observed_at s h) (t + 1 - r) r (λ x below. observed-at-more s h m x (omega arith))
+    ap₂ (λ (a b : ℕ). map (observed_at s (h ++ m ∷ [])) (numbers_from a (b - a)))
+    (reset-before-more s Tx h m) long
+    ∙ map-numbers (observed_at s (h ++ m ∷ [])) (observed_at s h) (t + 1 - r) r
+    (λ x below. observed-at-more s h m x (omega arith))
 
 -- ---- the frames that begin
 
-pub frames-before-more : (h : History) (m : Moment) → frames_before (h ++ m ∷ []) ≡ frames_before h + length m.entered
+pub frames-before-more : (h : History) (m : Moment)
+    → frames_before (h ++ m ∷ []) ≡ frames_before h + length m.entered
 frames-before-more h m =
     let one : flat_map (λ m. m.entered) (m ∷ []) ≡ m.entered = append-nil m.entered in
-    ap length (flat_map-append (λ m. m.entered) h (m ∷ [])) ∙ length-append (flat_map (λ m. m.entered) h) (flat_map (λ m. m.entered) (m ∷ []))
+    ap length (flat_map-append (λ m. m.entered) h (m ∷ []))
+    ∙ length-append (flat_map (λ m. m.entered) h) (flat_map (λ m. m.entered) (m ∷ []))
     ∙ ap (λ l. frames_before h + length l) one
 
 after-boundary-b : (p : Params) (n : ℕ) → IsOrderB (after_boundary p n)
@@ -161,16 +189,19 @@ after-boundary-b p n = elim (cases_lt n (4 * period p)) [
   | inr above ↦ rw (le-ltb n (4 * period p) above) tt
 ]
 
-order-b-is : (p : Params) (hs : List Observed) (n : ℕ) → length (since_boundary hs) ≡ n → IsOrderB (order_b p hs)
+order-b-is : (p : Params) (hs : List Observed) (n : ℕ) → length (since_boundary hs) ≡ n
+    → IsOrderB (order_b p hs)
 order-b-is p hs zero e = rw e tt
-order-b-is p hs (suc n) e = rw (e, ne_eqb (suc n) 0 (λ z. omega arith)) (after-boundary-b p (suc n - 1))
+order-b-is p hs (suc n) e = rw (e, ne_eqb (suc n) 0 (λ z. omega arith))
+    (after-boundary-b p (suc n - 1))
 
 tx-order-is : (p : Params) (hs : List Observed) → p.mode ≡ B → tx_order p hs ≡ order_b p hs
 unfolding tx_order
 tx-order-is p hs e = rw e refl
 
 pub tx-order-b : (p : Params) (hs : List Observed) → p.mode ≡ B → IsOrderB (tx_order p hs)
-tx-order-b p hs e = subst IsOrderB (sym (tx-order-is p hs e)) (order-b-is p hs (length (since_boundary hs)) refl)
+tx-order-b p hs e = subst IsOrderB (sym (tx-order-is p hs e))
+    (order-b-is p hs (length (since_boundary hs)) refl)
 
 pub order-next-b : (s : Plan) (h : History) → s.link.params.mode ≡ B → IsOrderB (next s h).order
 unfolding order_of
@@ -189,18 +220,21 @@ begins-b p x e =
     let z : 1 * x + 0 ≡ x = omega arith in
     ap (λ (n : ℕ). (n * x + 0) % p.f == 0) (one-octet p e) ∙ ap (λ (n : ℕ). n % p.f == 0) z
 
-beginnings-b : (p : Params) (x : ℕ) → p.mode ≡ B → filter (begins_frame p x) (numbers_from 0 1) ≡ (if x % p.f == 0 then 0 ∷ [] else [])
+beginnings-b : (p : Params) (x : ℕ) → p.mode ≡ B
+    → filter (begins_frame p x) (numbers_from 0 1) ≡ (if x % p.f == 0 then 0 ∷ [] else [])
 unfolding numbers_from
 beginnings-b p x e = elim (cases_Bool (x % p.f == 0)) [
   | inl t ↦ rw (begins-b p x e ∙ t, t) refl
   | inr f ↦ rw (begins-b p x e ∙ f, f) refl
 ]
 
-entered-at-b : (p : Params) (t : ℕ) (place : Option ℕ) → p.mode ≡ B → map (λ j. octets_per_tick p * t + j) (beginnings p place) ≡ entered_b p t place
+entered-at-b : (p : Params) (t : ℕ) (place : Option ℕ) → p.mode ≡ B
+    → map (λ j. octets_per_tick p * t + j) (beginnings p place) ≡ entered_b p t place
 entered-at-b p t None e = refl
 entered-at-b p t (Some x) e =
     let now : 1 * t + 0 ≡ t = omega arith in
-    ap (λ (n : ℕ). map (λ j. n * t + j) (filter (begins_frame p x) (numbers_from 0 n))) (one-octet p e)
+    ap (λ (n : ℕ). map (λ j. n * t + j) (filter (begins_frame p x) (numbers_from 0 n)))
+    (one-octet p e)
     ∙ ap (map (λ (j : ℕ). 1 * t + j)) (beginnings-b p x e)
     ∙ elim (cases_Bool (x % p.f == 0)) [
       | inl t ↦ rw t (ap (λ k. k ∷ []) now)
@@ -209,11 +243,13 @@ entered-at-b p t (Some x) e =
 
 pub entered-next-b : (s : Plan) (h : History) → s.link.params.mode ≡ B
     → (next s h).entered ≡ entered_b s.link.params (length h) (data_place (next s h).order)
-entered-next-b s h e = entered-next s h ∙ entered-at-b s.link.params (length h) (data_place (next s h).order) e
+entered-next-b s h e = entered-next s h ∙ entered-at-b s.link.params (length h)
+    (data_place (next s h).order) e
 
 -- the octets that each lane is handed
 pub handed-lane : (s : Plan) (h : History) (lane : ℕ) → lane < s.link.params.l
-    → slice_index (next s h).handed lane ≡ handed_to s (frames_before h) (data_place (next s h).order) lane
+    → slice_index (next s h).handed lane ≡ handed_to s (frames_before h)
+    (data_place (next s h).order) lane
 handed-lane s h lane below =
     let long = length-numbers s.link.params.l 0 in
     let f = handed_to s (frames_before h) (data_place (next s h).order) in
@@ -225,26 +261,39 @@ handed-lane s h lane below =
 -- the octet of the frame that began last, where so many began before a tick at this place
 handed-at-b : (s : Plan) (before lane : ℕ) (place : Option ℕ) → s.link.params.mode ≡ B
     → handed_to s before place lane
-    ≡ octet_handed s.link.params (frame_of s.link.params (source_frame s (before + length (entered_b s.link.params 0 place) - 1))) (option_map (λ x. x % s.link.params.f) place) lane
+    ≡ octet_handed s.link.params
+    (frame_of s.link.params
+    (source_frame s (before + length (entered_b s.link.params 0 place) - 1)))
+    (option_map (λ x. x % s.link.params.f) place) lane
 unfolding handed_to numbers_from
 handed-at-b s before lane None e = refl
 handed-at-b s before lane (Some x) e =
     let p = s.link.params in
     let one : 256 * 0 + octet_of s before x lane 0 ≡ octet_of s before x lane 0 = omega arith in
-    let begun : length (filter (begins_frame p x) (numbers_from 0 1)) ≡ length (entered_b p 0 (Some x)) = ap length (beginnings-b p x e) in
+    let begun : length (filter (begins_frame p x) (numbers_from 0 1))
+    ≡ length (entered_b p 0 (Some x)) = ap length (beginnings-b p x e) in
     let z : 1 * x + 0 ≡ x = omega arith in
-    ap (λ (n : ℕ). fold (λ v j. 256 * v + octet_of s before x lane j) 0 (numbers_from 0 n)) (one-octet p e)
+    ap (λ (n : ℕ). fold (λ v j. 256 * v + octet_of s before x lane j) 0 (numbers_from 0 n))
+    (one-octet p e)
     ∙ one
-    ∙ ap₂ (λ (n o : ℕ). slice_index (frame_of p (source_frame s (before + n - 1))) (lane * p.f + (o * x + 0) % p.f)) begun (one-octet p e)
-    ∙ ap (λ (o : ℕ). slice_index (frame_of p (source_frame s (before + length (entered_b p 0 (Some x)) - 1))) (lane * p.f + o % p.f)) z
+    ∙ ap₂ (λ (n o : ℕ). slice_index (frame_of p (source_frame s (before + n - 1)))
+    (lane * p.f + (o * x + 0) % p.f)) begun (one-octet p e)
+    ∙ ap (λ (o : ℕ). slice_index
+    (frame_of p (source_frame s (before + length (entered_b p 0 (Some x)) - 1)))
+    (lane * p.f + o % p.f)) z
 
-length-entered-b : (p : Params) (t u : ℕ) (place : Option ℕ) → length (entered_b p t place) ≡ length (entered_b p u place)
+length-entered-b : (p : Params) (t u : ℕ) (place : Option ℕ)
+    → length (entered_b p t place) ≡ length (entered_b p u place)
 length-entered-b p t u None = refl
-length-entered-b p t u (Some x) = elim (cases_Bool (x % p.f == 0)) [ inl t ↦ rw t refl | inr f ↦ rw f refl ]
+length-entered-b p t u (Some x) =
+    elim (cases_Bool (x % p.f == 0)) [ inl t ↦ rw t refl | inr f ↦ rw f refl ]
 
-pub handed-next-b : (s : Plan) (h : History) (lane : ℕ) → s.link.params.mode ≡ B → lane < s.link.params.l
+pub handed-next-b : (s : Plan) (h : History) (lane : ℕ) → s.link.params.mode ≡ B
+    → lane < s.link.params.l
     → slice_index (next s h).handed lane
-    ≡ octet_handed s.link.params (frame_of s.link.params (source_frame s (frames_before (with_next s h) - 1))) (frame_place s.link.params (next s h).order) lane
+    ≡ octet_handed s.link.params
+    (frame_of s.link.params (source_frame s (frames_before (with_next s h) - 1)))
+    (frame_place s.link.params (next s h).order) lane
 handed-next-b s h lane e below =
     let p = s.link.params in
     let place = data_place (next s h).order in
@@ -252,15 +301,24 @@ handed-next-b s h lane e below =
     frames-before-more h (next s h) ∙ ap (λ l. frames_before h + length l) (entered-next-b s h e)
     ∙ ap (λ k. frames_before h + k) (length-entered-b p (length h) 0 place) in
     handed-lane s h lane below ∙ handed-at-b s (frames_before h) lane place e
-    ∙ ap (λ (k : ℕ). octet_handed p (frame_of p (source_frame s (k - 1))) (frame_place p (next s h).order) lane) (sym count)
+    ∙ ap (λ (k : ℕ). octet_handed p (frame_of p (source_frame s (k - 1)))
+    (frame_place p (next s h).order) lane) (sym count)
 
 -- what the transmitter observes in the tick that comes, and what it orders
 pub observed-at-next : (s : Plan) (h : History)
-    → observed_at s h (length h) ≡ record { phase = phase s Tx (length h); low = get_or (seen_of s.link.timing.sync_delay (lows h)) (length (lows h)) true }
-observed-at-next s h = ap (λ (b : Bool). let o : Observed = record { phase = phase s Tx (length h); low = b } in o) (seen-low-next s h)
+    → observed_at s h (length h) ≡ record {
+      phase = phase s Tx (length h);
+      low =
+          get_or (seen_of s.link.timing.sync_delay (lows h)) (length (lows h)) true;
+    }
+observed-at-next s h =
+    ap (λ (b : Bool). let o : Observed = record { phase = phase s Tx (length h); low = b } in o)
+    (seen-low-next s h)
 
 pub order-observed : (s : Plan) (h : History)
-    → (next s h).order ≡ tx_order s.link.params ((if is_reset s Tx (length h) then [] else observed_before s h) ++ observed_at s h (length h) ∷ [])
+    → (next s h).order ≡ tx_order s.link.params
+    ((if is_reset s Tx (length h) then [] else observed_before s h) ++ observed_at s h (length h)
+    ∷ [])
 unfolding order_of
 order-observed s h = order-next s h ∙ ap (tx_order s.link.params) (observed-next s h)
 
@@ -277,4 +335,5 @@ run-more t s = refl
 pub length-run : (t : ℕ) (s : Plan) → length (run lanes_b s t) ≡ t
 unfolding run
 length-run zero s = refl
-length-run (suc t) s = length-more (run lanes_b s t) (next s (run lanes_b s t)) ∙ ap suc (length-run t s)
+length-run (suc t) s = length-more (run lanes_b s t) (next s (run lanes_b s t))
+    ∙ ap suc (length-run t s)

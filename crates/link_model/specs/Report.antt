@@ -18,8 +18,9 @@ use Rattle.scenario.specs.declared.report_row.Row.TheVariants as row
 use Rattle.scenario.specs.declared.report_row.Totals.{Totals}
 use Rattle.scenario.specs.Plans.{Plan, source_frame}
 use Rattle.scenario.specs.ReportLines.{line_of}
-use Rattle.link_run.specs.Edges.{is_reset, off}
-use Rattle.link_run.specs.Run.{Delivered, History, Moment, run}
+use Rattle.link_model.specs.Edges.{is_reset, off}
+use Rattle.link_model.specs.Moments.{Delivered, History, Moment}
+use Rattle.link_model.specs.Run.{run}
 
 -- a row with its words
 pub record Printed : Type 0 where
@@ -56,7 +57,8 @@ decision_rows t decision.Hunt = row.Hunt t ∷ []
 -- the rows of source frames that begin at these octet times, the first of which has number n
 unfoldable pub enter_rows : Plan → ℕ → List ℕ → List Printed
 enter_rows s n [] = []
-enter_rows s n (o ∷ os) = record { row = row.Enter o; words = source_frame s n } ∷ enter_rows s (suc n) os
+enter_rows s n (o ∷ os) = record { row = row.Enter o; words = source_frame s n }
+    ∷ enter_rows s (suc n) os
 
 abbrev pub frame_row : Delivered → Printed
 frame_row d = record { row = row.Frame d.left d.mark; words = d.words }
@@ -101,7 +103,8 @@ marks h = flat_map (λ m. map (λ d. d.mark) m.delivered) h
 -- how many alarms the ticks from t on raised
 unfoldable pub alarms_from : Plan → ℕ → History → ℕ
 alarms_from s t [] = 0
-alarms_from s t (m ∷ h) = length (off_alarms s t) + length m.decided.alarms + alarms_from s (suc t) h
+alarms_from s t (m ∷ h) = length (off_alarms s t) + length m.decided.alarms + alarms_from s
+    (suc t) h
 
 unfoldable pub totals : Plan → History → Totals
 totals s h = record {
@@ -117,7 +120,8 @@ totals s h = record {
 
 -- all rows: the link, the hunt that begins the run, the rows of its ticks, the counts
 unfoldable pub rows : Plan → History → List Printed
-rows s h = bare row.Link ∷ bare (row.Hunt 0) ∷ (rows_from s 0 0 h ++ bare (row.End (totals s h)) ∷ [])
+rows s h = bare row.Link ∷ bare (row.Hunt 0)
+    ∷ (rows_from s 0 0 h ++ bare (row.End (totals s h)) ∷ [])
 
 -- the lines of some rows
 unfoldable pub lines : Plan → List Printed → List ℕ

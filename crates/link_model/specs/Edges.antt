@@ -1,5 +1,5 @@
--- The SYSREF edges, resets and clock phases of a run (JESD204B.01 clause 6, deterministic latency; jitter and resets are this project's
--- own). All are functions of the plan and the tick.
+-- The SYSREF edges, resets and clock phases of a run (JESD204B.01 clause 6, deterministic latency;
+-- jitter and resets are this project's own). All are functions of the plan and the tick.
 -- Code: the next edge of a device, and a clock.
 use Rattle.std.specs.Prelude.{ℕ, zero, suc, ◌+◌, ◌-◌, ◌*◌, ◌/◌, ◌==◌, Bool, true, false, ◌&&◌, if◌then◌else◌, List, map, fold, Option, ℤ, pos}
 use Rattle.std.specs.List.{list_any}
@@ -39,15 +39,20 @@ skew t Rx = t.rx_skew
 
 -- the jitter of edge i at a device: that of the last record for it, or 0
 unfoldable pub jitter : List Jitter → Device → ℕ → ℤ
-jitter jitters d i = fold (λ x (j : Jitter). if is_device d j.device && (j.edge == i) then j.sixteenths else x) (pos 0) jitters
+jitter jitters d i =
+    fold (λ x (j : Jitter). if is_device d j.device && (j.edge == i) then j.sixteenths else x)
+    (pos 0) jitters
 
 -- the tick in which a device captures edge i
 unfoldable pub edge_tick : Plan → Device → ℕ → ℕ
-edge_tick s d i = let t = s.link.timing in captured (t.sysref_start + i * t.sysref_period) (skew t d) (jitter s.jitters d i)
+edge_tick s d i = let t = s.link.timing in captured (t.sysref_start + i * t.sysref_period)
+    (skew t d) (jitter s.jitters d i)
 
--- some edge is captured in tick t: one of the first ones, since no jitter reaches farther than two ticks
+-- some edge is captured in tick t: one of the first ones, since no jitter reaches farther than two
+-- ticks
 unfoldable pub is_edge : Plan → Device → ℕ → Bool
-is_edge s d t = list_any (λ i. edge_tick s d i == t) (numbers_from 0 (t / s.link.timing.sysref_period + 2))
+is_edge s d t = list_any (λ i. edge_tick s d i == t)
+    (numbers_from 0 (t / s.link.timing.sysref_period + 2))
 
 -- whether an edge is captured, in each tick from the device's last reset up to t
 unfoldable pub edges : Plan → Device → ℕ → List Bool

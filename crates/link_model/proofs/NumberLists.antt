@@ -28,11 +28,14 @@ pub numbers-to : (r t : ℕ) → r ≤ t → numbers_from r (t + 1 - r) ≡ numb
 numbers-to r t below =
     let long : t + 1 - r ≡ suc (t - r) = omega arith in
     let last : r + (t - r) ≡ t = omega arith in
-    ap (numbers_from r) long ∙ numbers-more (t - r) r ∙ ap (λ k. numbers_from r (t - r) ++ k ∷ []) last
+    ap (numbers_from r) long ∙ numbers-more (t - r) r
+    ∙ ap (λ k. numbers_from r (t - r) ++ k ∷ []) last
 
 -- functions that agree at these numbers
-pub map-numbers : {A : Type 0} (f g : ℕ → A) → (n a : ℕ) → ((x : ℕ) → x < a + n → f x ≡ g x) → map f (numbers_from a n) ≡ map g (numbers_from a n)
+pub map-numbers : {A : Type 0} (f g : ℕ → A) → (n a : ℕ) → ((x : ℕ) → x < a + n → f x ≡ g x)
+    → map f (numbers_from a n) ≡ map g (numbers_from a n)
 unfolding numbers_from
 map-numbers f g zero a same = refl
 map-numbers f g (suc n) a same =
-    ap₂ (λ y l. y ∷ l) (same a (omega arith)) (map-numbers f g n (suc a) (λ x below. same x (omega arith)))
+    ap₂ (λ y l. y ∷ l) (same a (omega arith))
+    (map-numbers f g n (suc a) (λ x below. same x (omega arith)))

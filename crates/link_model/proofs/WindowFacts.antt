@@ -16,10 +16,10 @@ use Rattle.link_params.proofs.StepFacts.{in_step, lat_ticks-is}
 use Rattle.sysref_clock.specs.Clocks.{phase_after}
 use Rattle.sysref_clock.proofs.Edges.{next_phase}
 use Rattle.scenario.specs.Plans.{Plan, numbers_from}
-use Rattle.link_run.specs.Edges.{edges, is_edge, is_reset, last_reset, phase}
-use Rattle.link_run.specs.Run.{offset_at}
-use Rattle.link_run.proofs.NumberLists.{numbers-to}
-use Rattle.link_run.proofs.TxHistory.{last-reset-before, last-reset-le}
+use Rattle.link_model.proofs.NumberLists.{numbers-to}
+use Rattle.link_model.proofs.TxHistory.{last-reset-before, last-reset-le}
+use Rattle.link_model.specs.Edges.{edges, is_edge, is_reset, last_reset, phase}
+use Rattle.link_model.specs.Receives.{offset_at}
 
 -- two numbers less than a period apart that leave one remainder are one
 one-remainder : (p a b : ℕ) → 0 < p → a % p ≡ b % p → a ≤ b → b < a + p → a ≡ b
@@ -27,7 +27,8 @@ one-remainder p a b pos e le near =
     let x : p * (a / p) + a % p ≡ a = omega arith in
     let y : p * (b / p) + b % p ≡ b = omega arith in
     elim (cases_lt (a / p) (b / p)) [
-      | inl below ↦ let m : p * (a / p + 1) ≤ p * (b / p) = mul-le-mul_left p (let q : a / p + 1 ≤ b / p = omega arith in q) in absurd (omega arith)
+      | inl below ↦ let m : p * (a / p + 1) ≤ p * (b / p) =
+          mul-le-mul_left p (let q : a / p + 1 ≤ b / p = omega arith in q) in absurd (omega arith)
       | inr up ↦ let m : p * (b / p) ≤ p * (a / p) = mul-le-mul_left p up in omega arith
     ]
 
@@ -42,7 +43,8 @@ pub record IsLegal (p : Params) (t : Timing) : Type 0 where
   pub behind : tx_edge t ≤ rx_edge t + period p
   pub step : (lat_ticks p t + tx_edge t) % period p ≡ (rx_edge t + t.rbd) % period p
 
-pub legal : (p : Params) (t : Timing) → broken_law p ≡ None → broken_timing p t ≡ None → p.mode ≡ B → IsLegal p t
+pub legal : (p : Params) (t : Timing) → broken_law p ≡ None → broken_timing p t ≡ None → p.mode ≡ B
+    → IsLegal p t
 legal p t laws timing mode =
     let sizes = legal_sizes p laws in
     let some : 17 ≤ period p = sizes.period_low in
@@ -54,8 +56,10 @@ legal p t laws timing mode =
     let least : ℕ = t.w_hi + wait p in
     let gap : ℕ = (due + period p - (least + tx_edge t) % period p) % period p in
     let small : gap < period p = mod-lt (due + period p - (least + tx_edge t) % period p) pos in
-    let steps : (least + gap + tx_edge t) % period p ≡ due = in_step (period p) least (tx_edge t) due low in
-    let is : least + gap ≡ lat_ticks p t = lat_ticks-is p t (least + gap) pos (omega arith) (omega arith) steps in
+    let steps : (least + gap + tx_edge t) % period p ≡ due =
+    in_step (period p) least (tx_edge t) due low in
+    let is : least + gap ≡ lat_ticks p t = lat_ticks-is p t (least + gap) pos (omega arith)
+    (omega arith) steps in
     let skew = l.tx_skew in
     let latency = l.latency in
     record {
@@ -84,7 +88,8 @@ pub record IsNear (p : Params) (t : Timing) (f : ℕ) : Type 0 where
   pub near : lat_ticks p t - f < period p
   pub fits : lat_ticks p t - f + 1 ≤ depth p t
 
-pub near-offset : (p : Params) (t : Timing) (f : ℕ) → IsLegal p t → is_inside t f ≡ true → IsNear p t f
+pub near-offset : (p : Params) (t : Timing) (f : ℕ) → IsLegal p t → is_inside t f ≡ true
+    → IsNear p t f
 near-offset p t f l inside =
     let parts = inside-parts t f inside in
     let low = parts.0 in
@@ -98,8 +103,10 @@ near-offset p t f l inside =
 abbrev pub ComesAfter : Params → Timing → ℕ → ℕ → Type 0
 ComesAfter p t x d = (x + d ≡ t.rbd) ⊎ (x + d ≡ t.rbd + period p)
 
--- where a start at phase x has an offset inside the window, a release point comes after what is left of the latency
-pub comes-after-start : (p : Params) (t : Timing) (x : ℕ) → IsLegal p t → x < period p → is_inside t (offset_at p t (Some x)) ≡ true
+-- where a start at phase x has an offset inside the window, a release point comes after what is
+-- left of the latency
+pub comes-after-start : (p : Params) (t : Timing) (x : ℕ) → IsLegal p t → x < period p
+    → is_inside t (offset_at p t (Some x)) ≡ true
     → ComesAfter p t x (lat_ticks p t - offset_at p t (Some x))
 comes-after-start p t x l below inside =
     let n : ℕ = period p in
@@ -114,7 +121,8 @@ comes-after-start p t x l below inside =
     let same : f ≡ whole % n =
     ap (λ (w : ℕ). (x + rx_edge t + (w + 1) * n - (tx_edge t + w)) % n) z
     ∙ ap (λ (m : ℕ). (x + rx_edge t + m - (tx_edge t + 0)) % n) one
-    ∙ (let e : x + rx_edge t + n - (tx_edge t + 0) ≡ whole = omega arith in ap (λ (m : ℕ). m % n) e) in
+    ∙ (let e : x + rx_edge t + n - (tx_edge t + 0) ≡ whole = omega arith in
+    ap (λ (m : ℕ). m % n) e) in
     let near = near-offset p t f l inside in
     let in_reach = near.within in
     let small = near.near in
@@ -124,25 +132,31 @@ comes-after-start p t x l below inside =
     let sum : q + x + rx_edge t + n ≡ lat_ticks p t + tx_edge t + n * k = omega arith in
     let rest : (q + x + rx_edge t + n) % n ≡ (rx_edge t + t.rbd) % n =
     ap (λ (m : ℕ). m % n) sum ∙ add-mul-mod_self_left (lat_ticks p t + tx_edge t) n k ∙ l.step in
-    let again : (rx_edge t + t.rbd + n * 1) % n ≡ (rx_edge t + t.rbd) % n = add-mul-mod_self_left (rx_edge t + t.rbd) n 1 in
-    let twice : (rx_edge t + t.rbd + n * 2) % n ≡ (rx_edge t + t.rbd) % n = add-mul-mod_self_left (rx_edge t + t.rbd) n 2 in
+    let again : (rx_edge t + t.rbd + n * 1) % n ≡ (rx_edge t + t.rbd) % n =
+    add-mul-mod_self_left (rx_edge t + t.rbd) n 1 in
+    let twice : (rx_edge t + t.rbd + n * 2) % n ≡ (rx_edge t + t.rbd) % n =
+    add-mul-mod_self_left (rx_edge t + t.rbd) n 2 in
     elim (cases_lt t.rbd (q + x)) [
       | inr low ↦
-          let e = one-remainder n (q + x + rx_edge t + n) (rx_edge t + t.rbd + n * 1) pos (rest ∙ sym again) (omega arith) (omega arith) in
+          let e = one-remainder n (q + x + rx_edge t + n) (rx_edge t + t.rbd + n * 1) pos
+          (rest ∙ sym again) (omega arith) (omega arith) in
           inl (omega arith)
       | inl above ↦ elim (cases_lt (t.rbd + n) (q + x)) [
         | inr low ↦
-            let e = one-remainder n (q + x + rx_edge t + n) (rx_edge t + t.rbd + n * 2) pos (rest ∙ sym twice) (omega arith) (omega arith) in
+            let e = one-remainder n (q + x + rx_edge t + n) (rx_edge t + t.rbd + n * 2) pos
+            (rest ∙ sym twice) (omega arith) (omega arith) in
             inr (omega arith)
         | inl high ↦
-            let e = one-remainder n (rx_edge t + t.rbd + n * 2) (q + x + rx_edge t + n) pos (twice ∙ sym rest) (omega arith) (omega arith) in
+            let e = one-remainder n (rx_edge t + t.rbd + n * 2) (q + x + rx_edge t + n) pos
+            (twice ∙ sym rest) (omega arith) (omega arith) in
             inr (omega arith)
       ]
     ]
 
 -- ---- phases
 
-pub phase-next : (s : Plan) (t x : ℕ) → 0 < period s.link.params → is_reset s Rx (suc t) ≡ false → phase s Rx t ≡ Some x
+pub phase-next : (s : Plan) (t x : ℕ) → 0 < period s.link.params → is_reset s Rx (suc t) ≡ false
+    → phase s Rx t ≡ Some x
     → phase s Rx (suc t) ≡ Some ((x + 1) % period s.link.params)
 unfolding edges
 phase-next s t x pos e some =
@@ -156,7 +170,8 @@ phase-next s t x pos e some =
     ap (λ (q : ℕ). map (is_edge s Rx) (numbers_from q (suc t + 1 - q))) same
     ∙ ap (map (is_edge s Rx)) longer
     ∙ map_push (is_edge s Rx) (numbers_from r (t + 1 - r)) (suc t) in
-    ap (phase_after (period s.link.params)) more ∙ next_phase (period s.link.params) (edges s Rx t) (is_edge s Rx (suc t)) x pos some
+    ap (phase_after (period s.link.params)) more ∙ next_phase (period s.link.params) (edges s Rx t)
+    (is_edge s Rx (suc t)) x pos some
 
 -- a phase that goes on comes nearer to the release point
 pub record GoesNear (p : Params) (t : Timing) (x d : ℕ) : Type 0 where
@@ -164,16 +179,28 @@ pub record GoesNear (p : Params) (t : Timing) (x d : ℕ) : Type 0 where
   pub less : d ≡ left + 1
   pub comes : ComesAfter p t ((x + 1) % period p) left
 
-pub goes-near : (p : Params) (t : Timing) (x d : ℕ) → IsLegal p t → x < period p → 1 ≤ d → d < period p → ComesAfter p t x d → GoesNear p t x d
+pub goes-near : (p : Params) (t : Timing) (x d : ℕ) → IsLegal p t → x < period p → 1 ≤ d
+    → d < period p → ComesAfter p t x d → GoesNear p t x d
 goes-near p t x d l below some short comes =
     let n : ℕ = period p in
     let rbd = l.rbd in
     elim (cases_lt (x + 1) n) [
       | inl inside ↦
           let e : (x + 1) % n ≡ x + 1 = mod-eq_of_lt inside in
-          record { left = d - 1; less = omega arith; comes = elim comes [ inl h ↦ inl (omega arith) | inr h ↦ inr (omega arith) ] }
+          record {
+            left = d - 1;
+            less = omega arith;
+            comes =
+                elim comes [ inl h ↦ inl (omega arith) | inr h ↦ inr (omega arith) ];
+          }
       | inr end ↦
           let whole : x + 1 ≡ 0 + n * 1 = omega arith in
-          let e : (x + 1) % n ≡ 0 = ap (λ (m : ℕ). m % n) whole ∙ add-mul-mod_self_left 0 n 1 ∙ mod-eq_of_lt (let pos : 0 < n = omega arith in pos) in
-          record { left = d - 1; less = omega arith; comes = elim comes [ inl h ↦ absurd (omega arith) | inr h ↦ inl (omega arith) ] }
+          let e : (x + 1) % n ≡ 0 = ap (λ (m : ℕ). m % n) whole ∙ add-mul-mod_self_left 0 n 1
+          ∙ mod-eq_of_lt (let pos : 0 < n = omega arith in pos) in
+          record {
+            left = d - 1;
+            less = omega arith;
+            comes =
+                elim comes [ inl h ↦ absurd (omega arith) | inr h ↦ inl (omega arith) ];
+          }
     ]

@@ -1,0 +1,17 @@
+pub mod ColumnHistory
+pub mod DecisionCases
+pub mod DeliveryHistory
+pub mod Depth
+pub mod EdgeTicks
+pub mod EntryCells
+pub mod FrameCells
+pub mod LaneDepth
+pub mod LaneHistory
+pub mod NextMoment
+pub mod NumberLists
+pub mod OrderLemmas
+pub mod RowHistory
+pub mod RxHistory
+pub mod TxHistory
+pub mod WindowFacts
+pub mod RunTicks

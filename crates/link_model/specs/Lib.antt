@@ -1,0 +1,14 @@
+pub mod Carried
+pub mod Before
+pub mod Edges
+pub mod LaneRuns
+pub mod Orders
+pub mod Report
+pub mod Moments
+pub mod Hunts
+pub mod Sends
+pub mod Receives
+pub mod Gives
+pub mod Run
+pub mod Sessions
+pub mod HistoryLaws
