@@ -1,0 +1,15 @@
+//! What holds of every run of a link: sessions and their premises, the laws of a lane, and what
+//! follows from them for any kind of lane. Definitions and laws over the histories of `link_model`;
+//! nothing here runs, and no law speaks of the code that runs a link.
+//!
+//! ```text
+//! ghost use Rattle.link_laws.specs.LawsB.{RunLaws};
+//! ensures laws { (plan : Plan) → plan_of scenario.now ≡ Some plan → RunLaws plan }
+//! ```
+#![tactic(auto)]
+
+mod laws;
+mod laws_b;
+
+pub use laws::laws_from_lanes;
+pub use laws_b::laws_of_lanes_b;

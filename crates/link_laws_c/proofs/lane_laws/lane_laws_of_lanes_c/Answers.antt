@@ -1,0 +1,11 @@
+use Rattle.link_laws_c.proofs.LaneLawsHold.{bound-c, lane-laws-c, latency-c, outside-c}
+use Rattle.link_laws_c.proofs.lane_laws.lane_laws_of_lanes_c.Goals as goal
+
+pub returns : goal.returns
+returns c = record {
+  lane_laws = lane-laws-c;
+  latency = latency-c;
+  bound = bound-c;
+  outside =
+      outside-c;
+}

@@ -1,0 +1,11 @@
+//! The laws of 64b/66b lanes and of links of them: when a lane locks, when it starts, what it hands
+//! on, and what follows by `link_laws` for a run. Definitions and laws; nothing here runs.
+//!
+//! ```text
+//! ghost use Rattle.link_laws_c.specs.LaneLawsC.{LatencyC};
+//! ```
+#![tactic(auto)]
+
+mod lane_laws;
+
+pub use lane_laws::lane_laws_of_lanes_c;
