@@ -1,34 +1,37 @@
--- Pieces, lines and digits.
-use Rattle.std.proofs.Common.{◌≡◌, ℕ, zero, suc, ◌+◌, ◌-◌, ◌*◌, ◌/◌, ◌%◌, ◌^◌, ◌<◌, ◌≤◌, ◌∙◌, List, [], ◌∷◌, ◌++◌, length, take, drop, get_or, refl, sym, ap, append_assoc, get_or-drop, get_or-take, arith}
+-- Pieces and lines.
+use Rattle.std.proofs.Common.{◌≡◌, ℕ, zero, suc, ◌+◌, ◌-◌, ◌*◌, ◌/◌, ◌%◌, ◌<◌, ◌≤◌, ◌∙◌, List, [], ◌∷◌, ◌++◌, length, take, drop, get_or, sym, ap, get_or-drop, get_or-take, arith}
 use Rattle.std.proofs.Math.Seq.{drop-drop}
-use Rattle.std.proofs.Math.Nat.{pow-suc, mul-le-mul_right}
-use Rattle.std.proofs.lemmas.Nat.{pow-add}
+use Rattle.std.proofs.Math.Nat.{mul-le-mul_right}
 use Rattle.std.proofs.lemmas.List.{flat_map_more, drop_all, take_all, append-nil}
 use Rattle.std.specs.List.{flat_map}
-use Rattle.scenario.specs.Digits.{hex_digit, hex_digits}
 use Rattle.link_bench.specs.Lines.{pieces, Each}
 
 -- one piece more
-pub pieces-more : {A : Type 0} (n m : ℕ) (xs : List A) → pieces n (m + 1) xs ≡ pieces n m xs ++ take n (drop (m * n) xs) ∷ []
+pub pieces-more : {A : Type 0} (n m : ℕ) (xs : List A) → pieces n (m + 1) xs ≡ pieces n m xs
+    ++ take n (drop (m * n) xs) ∷ []
 unfolding pieces
 pieces-more n zero xs = let e : 0 * n ≡ 0 = omega arith in ap (λ k. take n (drop k xs) ∷ []) (sym e)
 pieces-more {A} n (suc m) xs =
     let e : n + m * n ≡ suc m * n = omega arith in
-    let d : drop (m * n) (drop n xs) ≡ drop (suc m * n) xs = drop-drop (m * n) n xs ∙ ap (λ k. drop k xs) e in
-    let more : pieces n (m + 1) (drop n xs) ≡ pieces n m (drop n xs) ++ take n (drop (suc m * n) xs) ∷ [] =
+    let d : drop (m * n) (drop n xs) ≡ drop (suc m * n) xs = drop-drop (m * n) n xs
+    ∙ ap (λ k. drop k xs) e in
+    let more : pieces n (m + 1) (drop n xs) ≡ pieces n m (drop n xs) ++ take n (drop (suc m * n) xs)
+    ∷ [] =
     pieces-more n m (drop n xs) ∙ ap (λ x. pieces n m (drop n xs) ++ take n x ∷ []) d in
     let k : suc m + 1 ≡ suc (m + 1) = omega arith in
     rw k (ap {B = List (List A)} (λ r. take n xs ∷ r) more)
 
 -- one item more on each side
-pub Each-more : {A B : Type 0} (R : A → B → Type 0) (xs : List A) (ys : List B) (x : A) (y : B) → Each R xs ys → R x y → Each R (xs ++ x ∷ []) (ys ++ y ∷ [])
+pub Each-more : {A B : Type 0} (R : A → B → Type 0) (xs : List A) (ys : List B) (x : A) (y : B)
+    → Each R xs ys → R x y → Each R (xs ++ x ∷ []) (ys ++ y ∷ [])
 Each-more R [] [] x y e r = (r, tt)
 Each-more R (a ∷ xs) (b ∷ ys) x y e r = (e.0, Each-more R xs ys x y e.1 r)
 Each-more R [] (b ∷ ys) x y e r = absurd e
 Each-more R (a ∷ xs) [] x y e r = absurd e
 
 -- one frame more, and its line behind the text
-pub frames-more : {A : Type 0} (R : List A → List ℕ → Type 0) (line : List ℕ → List ℕ) (n m : ℕ) (xs : List A) (old new y : List ℕ)
+pub frames-more : {A : Type 0} (R : List A → List ℕ → Type 0) (line : List ℕ → List ℕ) (n m : ℕ)
+    (xs : List A) (old new y : List ℕ)
     → ((frames : List (List ℕ)) × Each R (pieces n m xs) frames × (old ≡ flat_map line frames))
     → R (take ((m + 1) * n - m * n) (drop (m * n) xs)) y → new ≡ old ++ line y
     → (frames : List (List ℕ)) × Each R (pieces n (m + 1) xs) frames × (new ≡ flat_map line frames)
@@ -36,43 +39,30 @@ frames-more R line n m xs old new y (frames, each, is) r added =
     let e : (m + 1) * n - m * n ≡ n = omega arith in
     let piece : R (take n (drop (m * n) xs)) y = rw e at r in (
       frames ++ y ∷ [],
-      rw (pieces-more n m xs) (Each-more R (pieces n m xs) frames (take n (drop (m * n) xs)) y each piece),
+      rw (pieces-more n m xs)
+          (Each-more R (pieces n m xs) frames (take n (drop (m * n) xs)) y each piece),
       added ∙ ap (λ t. t ++ line y) is ∙ flat_map_more line [] frames y,
     )
 
 -- a slice of words keeps below the limit
-pub slice-below : (xs : List ℕ) (n k limit r : ℕ) → ((i : ℕ) → i < length xs → get_or xs i 0 < limit) → r < k → n + r < length xs → get_or (take k (drop n xs)) r 0 < limit
-slice-below xs n k limit r below lt within = rw (get_or-take k (drop n xs) r 0 lt, get_or-drop n xs r 0) (below (n + r) within)
-
-pub pow-sixteen : (n : ℕ) → 2 ^ (4 * n) ≡ 16 ^ n
-pow-sixteen zero = refl
-pow-sixteen (suc n) =
-    let e : 4 * suc n ≡ 4 * n + 4 = omega arith in
-    rw (e, pow-add 2 (4 * n) 4, pow-sixteen n, pow-suc 16 n) refl
-
--- the first digit behind a text, before the others
-pub digit-more : (old text new : List ℕ) (n x d : ℕ) → 0 < n → text ++ hex_digits n x ≡ old → d ≡ hex_digit (x / 2 ^ (4 * (n - 1)) % 16)
-    → new ≡ text ++ d ∷ [] → new ++ hex_digits (n - 1) x ≡ old
-unfolding hex_digits
-digit-more old text new zero x d some is digit added = absurd (omega arith)
-digit-more old text new (suc n) x d some is digit added =
-    let e : suc n - 1 ≡ n = omega arith in
-    let p : d ≡ hex_digit (x / 16 ^ n % 16) = digit ∙ ap (λ k. hex_digit (x / 2 ^ (4 * k) % 16)) e ∙ ap (λ q. hex_digit (x / q % 16)) (pow-sixteen n) in
-    ap (λ t. t ++ hex_digits (suc n - 1) x) added
-    ∙ ap (λ k. (text ++ d ∷ []) ++ hex_digits k x) e
-    ∙ append_assoc text (d ∷ []) (hex_digits n x)
-    ∙ ap (λ v. text ++ v ∷ hex_digits n x) p
-    ∙ is
+pub slice-below : (xs : List ℕ) (n k limit r : ℕ)
+    → ((i : ℕ) → i < length xs → get_or xs i 0 < limit) → r < k → n + r < length xs
+    → get_or (take k (drop n xs)) r 0 < limit
+slice-below xs n k limit r below lt within =
+    rw (get_or-take k (drop n xs) r 0 lt, get_or-drop n xs r 0) (below (n + r) within)
 
 -- a slice that was written back to its vector
-pub written-back : (len : ℕ) (out items : List ℕ) → length items ≡ len → length out ≡ length items → take len (out ++ drop (length out) items) ≡ out
+pub written-back : (len : ℕ) (out items : List ℕ) → length items ≡ len → length out ≡ length items
+    → take len (out ++ drop (length out) items) ≡ out
 written-back len out items is same =
     let e : drop (length out) items ≡ [] = drop_all (length out) items (omega arith) in
-    ap (λ d. take len (out ++ d)) e ∙ ap (take len) (append-nil out) ∙ take_all len out (omega arith)
+    ap (λ d. take len (out ++ d)) e ∙ ap (take len) (append-nil out)
+    ∙ take_all len out (omega arith)
 
 -- frames that are counted by division lie within
 pub frame-within : (frame size len : ℕ) → 0 < size → frame < len / size → (frame + 1) * size ≤ len
 frame-within frame size len some lt =
-    let m : (frame + 1) * size ≤ len / size * size = mul-le-mul_right size (let h : frame + 1 ≤ len / size = omega arith in h) in
+    let m : (frame + 1) * size ≤ len / size * size =
+    mul-le-mul_right size (let h : frame + 1 ≤ len / size = omega arith in h) in
     let e : size * (len / size) + len % size ≡ len = omega arith in
     omega arith

@@ -11,8 +11,8 @@ use Rattle.scenario.specs.Answer.{shape_of}
 use Rattle.scenario.specs.Plans.{Plan, plan_read}
 use Rattle.scenario.specs.Reads.{Seen, Refusal, reads}
 use Rattle.lane_b.specs.Received.{lanes_b}
-use Rattle.link_run.specs.Run.{run}
-use Rattle.link_run.specs.Report.{report, totals}
+use Rattle.link_model.specs.Run.{run}
+use Rattle.link_model.specs.Report.{report, totals}
 use Rattle.link_bench.specs.Lines.{IsMapped, IsUnmapped}
 
 -- the job of a task; `gen` is not built yet
@@ -35,13 +35,18 @@ limit = 4194304
 
 -- `bad,ROW,CAUSE,AT`
 abbrev pub bad_line : Refusal → List ℕ
-bad_line b = codes "bad," ++ (decimal b.row ++ (codes "," ++ (decimal b.cause ++ (codes "," ++ (decimal b.at ++ codes "\n")))))
+bad_line b = codes "bad,"
+    ++ (decimal b.row
+    ++ (codes "," ++ (decimal b.cause ++ (codes "," ++ (decimal b.at ++ codes "\n")))))
 
 -- the text that a job writes for a scenario
 abbrev pub IsText : Job → Seen → List ℕ → Type 0
-IsText job.Map seen text = (p : Params) × (shape_of seen.stage ≡ Some p) × IsMapped p seen.words text
-IsText job.Unmap seen text = (p : Params) × (shape_of seen.stage ≡ Some p) × IsUnmapped p seen.octets text
-IsText job.Run seen text = (plan : Plan) × (plan_read seen ≡ Some plan) × (text ≡ report lanes_b plan)
+IsText job.Map seen text = (p : Params) × (shape_of seen.stage ≡ Some p)
+    × IsMapped p seen.words text
+IsText job.Unmap seen text = (p : Params) × (shape_of seen.stage ≡ Some p)
+    × IsUnmapped p seen.octets text
+IsText job.Run seen text = (plan : Plan) × (plan_read seen ≡ Some plan)
+    × (text ≡ report lanes_b plan)
 
 -- how many alarms the run of a plan raises
 abbrev pub alarms_in : Option Plan → ℕ

@@ -21,18 +21,22 @@ Each R (x ∷ xs) [] = ⊥
 
 -- `octets,H,H` with one H a lane, its F octets
 abbrev pub octets_line : Params → List ℕ → List ℕ
-octets_line p octets = codes "octets" ++ (flat_map (λ lane. 44 ∷ encode_lower lane) (pieces p.f p.l octets) ++ codes "\n")
+octets_line p octets = codes "octets"
+    ++ (flat_map (λ lane. 44 ∷ encode_lower lane) (pieces p.f p.l octets) ++ codes "\n")
 
 -- `frame,W,W` with M·S words
 abbrev pub frame_line : Params → List ℕ → List ℕ
-frame_line p words = codes "frame" ++ (flat_map (λ w. 44 ∷ hex_digits (word_digits p) w) words ++ codes "\n")
+frame_line p words = codes "frame"
+    ++ (flat_map (λ w. 44 ∷ hex_digits (word_digits p) w) words ++ codes "\n")
 
 -- the text of `map`: the octets line of each frame of words, in order
 abbrev pub IsMapped : Params → List ℕ → List ℕ → Type 0
 IsMapped p words text = let size = p.m * p.s in
-    (frames : List (List ℕ)) × Each (IsFrame p) (pieces size (length words / size) words) frames × (text ≡ flat_map (octets_line p) frames)
+    (frames : List (List ℕ)) × Each (IsFrame p) (pieces size (length words / size) words) frames
+    × (text ≡ flat_map (octets_line p) frames)
 
 -- the text of `unmap`: the frame line of the words of each frame's octets, in order
 abbrev pub IsUnmapped : Params → List ℕ → List ℕ → Type 0
 IsUnmapped p octets text = let size = p.l * p.f in
-    (frames : List (List ℕ)) × Each (AreWords p) (pieces size (length octets / size) octets) frames × (text ≡ flat_map (frame_line p) frames)
+    (frames : List (List ℕ)) × Each (AreWords p) (pieces size (length octets / size) octets) frames
+    × (text ≡ flat_map (frame_line p) frames)

@@ -8,7 +8,7 @@ use Rattle.scenario.specs.declared.kind.Job.TheVariants as job
 use Rattle.scenario.specs.declared.scenario_type.Scenario.{Scenario}
 use Rattle.scenario.specs.Inputs.{input_words}
 use Rattle.scenario.specs.Plans.{Plan, plan_of}
-use Rattle.link_run.specs.Report.{report}
+use Rattle.link_model.specs.Report.{report}
 use Rattle.link_bench.specs.Jobs.{alarms_in}
 use Rattle.link_bench.specs.Lines.{IsMapped, IsUnmapped}
 

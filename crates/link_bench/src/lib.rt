@@ -1,4 +1,5 @@
-//! The jobs of the bench: what the program `jesd_bench` does with its words, its input and its output.
+//! The jobs of the bench: what the program `jesd_bench` does with its words, its input and its
+//! output.
 //!
 //! ```text
 //! let mut input = StdSource::new(rt.stdin());
@@ -9,10 +10,14 @@
 
 mod digits;
 mod lines;
+mod link;
 #[cfg(test)]
 mod tests;
+#[cfg(test)]
+mod tests_lanes;
 #[cfg(test)]
 mod tests_run;
 mod top;
 
+pub use link::run_link;
 pub use top::bench;

@@ -52,7 +52,8 @@ fn zeros<T: Copy>(alloc: Global, zero: T, count: usize) -> Result<Vec<T>, AllocE
 /// The lines of `map`: the octets of each frame of words.
 pub(crate) fn mapped(alloc: Global, shape: &Shape, words: &[u32]) -> Result<Vec<u8>, AllocError>
     requires whole { length words.now % (shape.now.m * shape.now.s) ≡ 0 }
-    requires below { (r : ℕ) → r < length words.now → slice_index words.now r < 2 ^ (shape.now.n + shape.now.cs) }
+    requires below { (r : ℕ) → r < length words.now
+        → slice_index words.now r < 2 ^ (shape.now.n + shape.now.cs) }
     ensures { IfOk result (λ text. IsMapped shape.now words.now text.items) }
 {
     let layout = Layout::new(shape);

@@ -125,7 +125,8 @@ fn worked_examples(rt: HostRuntime) -> Result<(), Fail> {
     Ok(())
 }
 
-/// The example has 64 bytes: with pieces of 16, four calls give them and a fifth says that they are at their end.
+/// The example has 64 bytes: with pieces of 16, four calls give them and a fifth says that they are
+/// at their end.
 #[test]
 fn a_source_that_fails_on_each_call(rt: HostRuntime) -> Result<(), Fail> {
     let alloc = rt.alloc();

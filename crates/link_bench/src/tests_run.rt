@@ -1,11 +1,12 @@
-//! Tests of the job `run`: a record of each kind on a link with one lane, and a source and a sink that fail.
+//! Tests of the job `run`: a record of each kind on a link with one lane, and a source and a sink
+//! that fail.
 use crate::bench;
 use crate::tests::outcome;
 use jesd_base::{MemSink, MemSource, Status};
 use std::test::Fail;
 
-const ONE_LANE: &[u8] =
-    b"jesd,1\nlink,b,1,1,2,1,16,16,0,0,1,32,0\ntiming,128,2,8,120,7,20,5,5,20\nrun,560,frames\n";
+const TWO_LANES: &[u8] =
+    b"jesd,1\nlink,b,2,2,2,1,16,16,0,0,1,32,0\ntiming,128,2,8,120,7,20,5,5,20\nrun,560,frames\ndelay,0,0,50\ndelay,0,1,200\n";
 
 #[test]
 fn runs_of_one_lane(rt: HostRuntime) -> Result<(), Fail> {
@@ -70,11 +71,11 @@ fn runs_of_one_lane(rt: HostRuntime) -> Result<(), Fail> {
     Ok(())
 }
 
-/// The second call of the source, and the fourth of the sink.
+/// On a link with two lanes: the second call of the source, and the fourth of the sink.
 #[test]
 fn streams_that_fail(rt: HostRuntime) -> Result<(), Fail> {
     let alloc = rt.alloc();
-    let mut source = MemSource::new(ONE_LANE.to_vec(alloc)?, 16, vec![in alloc; 1u32]?);
+    let mut source = MemSource::new(TWO_LANES.to_vec(alloc)?, 16, vec![in alloc; 1u32]?);
     let mut sink = MemSink::open(alloc, 999, 999, Vec::new(alloc))
         .ok()
         .ok_or("no memory")?;
@@ -83,7 +84,7 @@ fn streams_that_fail(rt: HostRuntime) -> Result<(), Fail> {
         Status::ReadFault
     );
     assert_eq!(rt; sink.bytes().len(), 0);
-    let mut source = MemSource::new(ONE_LANE.to_vec(alloc)?, 4096, Vec::new(alloc));
+    let mut source = MemSource::new(TWO_LANES.to_vec(alloc)?, 4096, Vec::new(alloc));
     let mut sink = MemSink::open(alloc, 999, 8, vec![in alloc; 3u32]?)
         .ok()
         .ok_or("no memory")?;

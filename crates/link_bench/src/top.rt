@@ -5,11 +5,13 @@ ghost use Rattle.scenario.specs.Reads.{bad_at};
 ghost use Rattle.link_bench.specs.Jobs.{asked_job, bad_line};
 ghost use Rattle.link_bench.specs.Scenarios.{IsLines, IsReady, alarms_for};
 ghost use Rattle.link_bench.specs.Causes.{Causes, IsComplete};
+ghost use Rattle.link_bench.specs.Lawful.{RunsAreLawful};
 
 use crate::lines::{mapped, unmapped};
+use crate::link::run_link;
 use bench_words::{Task, WordsFault, read_words};
 use jesd_base::{NoMemory, ReadAll, Sink, Source, Status, WriteFault, read_all, write_all};
-use link_run::{Ran, run};
+use link_run::Ran;
 use scenario::{Input, Job, Scenario, ScenarioFault, read_scenario};
 use std::alloc::{AllocError, Global};
 
@@ -27,11 +29,15 @@ struct Lines {
 
 /// Does what the words ask for: reads the input to its end, does the job, and writes its lines.
 ///
-/// `words` are those after the program's name. The answer says what came of it: `Done` where the job raised no alarm,
-/// `Alarmed` where it is done and its run raised alarms; `BadWords` with the usage line written and nothing read;
-/// `BadScenario` with the line `bad,ROW,CAUSE,AT` written; `TooLong` for more than 4,194,304 bytes; `ReadFault` and
-/// `WriteFault` only where the source or the sink failed; `NoMemory`. Nothing else is written in these cases, and
-/// after `WriteFault` a prefix of what was due.
+/// `words` are those after the program's name. The answer says what came of it: `Done` where the
+/// job raised no alarm, `Alarmed` where it is done and its run raised alarms; `BadWords` with the
+/// usage line written and nothing read; `BadScenario` with the line `bad,ROW,CAUSE,AT` written;
+/// `TooLong` for more than 4,194,304 bytes; `ReadFault` and `WriteFault` only where the source or
+/// the sink failed; `NoMemory`. Nothing else is written in these cases, and after `WriteFault` a
+/// prefix of what was due.
+///
+/// The laws of a link hold of each run: of the plan that the records of an accepted input spell,
+/// whose report is what `run` writes (JESD204B.01 clause 6, deterministic latency).
 pub fn bench<S: Source, K: Sink>(
     alloc: Global,
     words: &[&str],
@@ -44,6 +50,7 @@ pub fn bench<S: Source, K: Sink>(
     ensures complete { IsComplete result (asked_job (map (λ w. w.now) words.now))
         (record { left = S.left input.old; written = K.written out.old; reads_failed = S.faults input.old; writes_failed = K.faults out.old })
         (record { left = S.left input.new; written = K.written out.new; reads_failed = S.faults input.new; writes_failed = K.faults out.new }) }
+    ensures laws { RunsAreLawful }
 {
     let job = match read_job(alloc, words) {
         Ok(Some(job)) => job,
@@ -137,7 +144,7 @@ fn run_lines(alloc: Global, scenario: &Scenario) -> Result<Lines, NoMemory>
     ensures text { IfOk result (λ lines. IsLines job.Run scenario.now lines.text.items) }
     ensures alarmed { IfOk result (λ lines. lines.alarmed ≡ nat_lt 0 (alarms_for job.Run scenario.now)) }
 {
-    let Ran { text, totals } = run(alloc, scenario)?;
+    let Ran { text, totals } = run_link(alloc, scenario)?;
     Ok(Lines {
         text,
         alarmed: totals.alarms > 0,

@@ -8,5 +8,7 @@ abbrev pub invariant-loop-frame : goal.invariant-loop-frame
 invariant-loop-frame l = record {
   octets : length l.octets.items ≡ l.shape.l * l.shape.f;
   digits : length l.digits.items ≡ 2 * l.shape.f;
-  lines : (frames : List (List ℕ)) × Each (IsFrame l.shape) (pieces (l.shape.m * l.shape.s) l.frame l.words) frames × (l.text.items ≡ flat_map (octets_line l.shape) frames);
+  lines : (frames : List (List ℕ))
+      × Each (IsFrame l.shape) (pieces (l.shape.m * l.shape.s) l.frame l.words) frames
+      × (l.text.items ≡ flat_map (octets_line l.shape) frames);
 }

@@ -11,17 +11,21 @@ unfolding pieces
 loop-lane-init c = sym (append-nil c.extend_from_slice.new.self.items)
 
 -- one lane more
-lane-more : (start old new octets : List ℕ) (f m : ℕ) → old ≡ start ++ flat_map (λ lane. 44 ∷ encode_lower lane) (pieces f m octets)
+lane-more : (start old new octets : List ℕ) (f m : ℕ)
+    → old ≡ start ++ flat_map (λ lane. 44 ∷ encode_lower lane) (pieces f m octets)
     → new ≡ old ++ 44 ∷ encode_lower (take ((m + 1) * f - m * f) (drop (m * f) octets))
     → new ≡ start ++ flat_map (λ lane. 44 ∷ encode_lower lane) (pieces f (m + 1) octets)
 lane-more start old new octets f m is added =
     let e : (m + 1) * f - m * f ≡ f = omega arith in
     let h : new ≡ old ++ 44 ∷ encode_lower (take f (drop (m * f) octets)) = rw e at added in
-    rw (pieces-more f m octets) (h ∙ ap (λ t. t ++ 44 ∷ encode_lower (take f (drop (m * f) octets))) is
-    ∙ flat_map_more (λ lane. 44 ∷ encode_lower lane) start (pieces f m octets) (take f (drop (m * f) octets)))
+    rw (pieces-more f m octets)
+    (h ∙ ap (λ t. t ++ 44 ∷ encode_lower (take f (drop (m * f) octets))) is
+    ∙ flat_map_more (λ lane. 44 ∷ encode_lower lane) start (pieces f m octets)
+    (take f (drop (m * f) octets)))
 
 pub loop-lane-preserved : goal.loop-lane-preserved
 loop-lane-preserved c =
     let size = c.frame_octets-size.ensures.value in
-    lane-more c.extend_from_slice.new.self.items c.loop-lane.text.items c.push_lane.new.text.items c.args.octets.now c.args.shape.now.f c.loop-lane.lane
+    lane-more c.extend_from_slice.new.self.items c.loop-lane.text.items c.push_lane.new.text.items
+    c.args.octets.now c.args.shape.now.f c.loop-lane.lane
     c.loop-lane.invariant (rw (← size) c.in_ok-push_lane.ensures)

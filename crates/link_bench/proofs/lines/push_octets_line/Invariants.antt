@@ -5,4 +5,5 @@ use Rattle.link_bench.specs.Lines.{pieces}
 use Rattle.link_bench.proofs.lines.push_octets_line.Given as goal
 
 abbrev pub invariant-loop-lane : goal.invariant-loop-lane
-invariant-loop-lane l = l.text.items ≡ l.initial.text.items ++ flat_map (λ lane. 44 ∷ encode_lower lane) (pieces l.shape.f l.lane l.octets)
+invariant-loop-lane l = l.text.items ≡ l.initial.text.items
+    ++ flat_map (λ lane. 44 ∷ encode_lower lane) (pieces l.shape.f l.lane l.octets)

@@ -7,5 +7,7 @@ use Rattle.link_bench.proofs.lines.unmapped.Given as goal
 abbrev pub invariant-loop-frame : goal.invariant-loop-frame
 invariant-loop-frame l = record {
   words : length l.words.items ≡ l.shape.m * l.shape.s;
-  lines : (frames : List (List ℕ)) × Each (AreWords l.shape) (pieces (l.shape.l * l.shape.f) l.frame l.octets) frames × (l.text.items ≡ flat_map (frame_line l.shape) frames);
+  lines : (frames : List (List ℕ))
+      × Each (AreWords l.shape) (pieces (l.shape.l * l.shape.f) l.frame l.octets) frames
+      × (l.text.items ≡ flat_map (frame_line l.shape) frames);
 }

@@ -1,0 +1,13 @@
+-- Every run that the bench makes keeps the laws of a link.
+-- Code: none of this is computed.
+use Rattle.std.specs.Prelude.{◌≡◌, ℕ, List, Some, Ok}
+use Rattle.scenario.specs.declared.kind.Job.TheVariants as job
+use Rattle.scenario.specs.Plans.{Plan, plan_read}
+use Rattle.scenario.specs.Reads.{Seen, reads}
+use Rattle.link_laws.specs.LawsB.{RunLaws}
+
+-- the laws of a link hold of the run of each plan that the records of an accepted input spell: of
+-- the plan whose report is written
+abbrev pub RunsAreLawful : Type 0
+RunsAreLawful = (bytes : List ℕ) (seen : Seen) (plan : Plan) → reads job.Run bytes ≡ Ok seen
+    → plan_read seen ≡ Some plan → RunLaws plan

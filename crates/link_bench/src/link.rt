@@ -1,0 +1,38 @@
+//! The run of a scenario's link.
+ghost use Rattle.std.specs.Prelude.{◌≡◌, IfOk, IsTrue, is_some, Some};
+ghost use Rattle.std.specs.Option.{ForSome};
+ghost use Rattle.link_params.specs.declared.fields.Mode.TheVariants.{B};
+ghost use Rattle.lane_b.specs.Received.{lanes_b};
+ghost use Rattle.scenario.specs.Plans.{Plan, plan_of};
+ghost use Rattle.link_model.specs.Report.{report, totals};
+ghost use Rattle.link_model.specs.Run.{run as history};
+ghost use Rattle.link_laws.specs.LawsB.{RunLaws};
+
+use jesd_base::NoMemory;
+use link_run::{Ran, run};
+use scenario::Scenario;
+use std::alloc::Global;
+
+/// Runs the link of a scenario from its first tick to its last one (JESD204B.01 clauses 5.3.3 link
+/// operation and 6 deterministic latency).
+///
+/// The text is the report of the run of the scenario's plan, the counts are those of its last line,
+/// and the laws of a link hold of this very run: latency, bound, depth, lanes outside their
+/// windows, marks, and that nothing sent imitates the lock. `NoMemory` where the text of the report
+/// or the link gets no memory.
+pub fn run_link(alloc: Global, scenario: &Scenario) -> Result<Ran, NoMemory>
+    requires link { IsTrue (is_some scenario.now.link) }
+    requires mode { ForSome scenario.now.link (λ k. k.params.mode ≡ B) }
+    ensures text { (plan : Plan) → plan_of scenario.now ≡ Some plan
+        → IfOk result (λ r. r.text.items ≡ report lanes_b plan) }
+    ensures totals { (plan : Plan) → plan_of scenario.now ≡ Some plan
+        → IfOk result (λ r. r.totals ≡ totals plan (history lanes_b plan plan.ticks)) }
+    ensures laws { (plan : Plan) → plan_of scenario.now ≡ Some plan → RunLaws plan }
+{
+    let Some(link) = scenario.link else {
+        unreachable!()
+    };
+    // what these two promise is that the link obeys its laws
+    let (_shape, _timing) = (link.shape(), link.timing());
+    run(alloc, scenario)
+}
