@@ -1,12 +1,10 @@
 -- The block of a tick is read.
-use Rattle.std.proofs.Common.{◌≡◌, ℕ, suc, ◌+◌, ◌-◌, ◌*◌, ◌/◌, ◌%◌, ◌^◌, ◌<◌, ◌==◌, Bool, true, false, if◌then◌else◌, List, [], ◌∷◌, ◌++◌, length, take, drop, map, Option, Some, None, is_some, sym, ◌∙◌, ap, ap₂, inl, inr, arith, length-append, bit_and, subst}
-use Rattle.std.proofs.Math.Nat.{mod-eq_of_lt}
-use Rattle.std.proofs.lemmas.Nat.{and_mask}
+use Rattle.std.proofs.Common.{◌≡◌, ℕ, suc, ◌+◌, ◌-◌, ◌*◌, ◌/◌, ◌%◌, ◌<◌, ◌==◌, Bool, true, false, if◌then◌else◌, List, [], ◌∷◌, ◌++◌, length, take, drop, map, Option, Some, None, is_some, sym, ◌∙◌, ap, ap₂, inl, inr, arith, length-append, subst}
 use Rattle.std.proofs.lemmas.Bool.{cases_eq}
 use Rattle.std.proofs.lemmas.Bool.Decides.{nat_tests}
 use Rattle.std.proofs.lemmas.List.{length-drop, length-map, length-take, map-append}
 use Rattle.jesd_base.specs.Bits.{bits, value}
-use Rattle.jesd_base.proofs.BitLemmas.{bits_of_value, value_below}
+use Rattle.jesd_base.proofs.BitLemmas.{bits_of_value}
 use Rattle.link_params.specs.declared.fields.Params.{Params}
 use Rattle.block_66b.specs.declared.sync_bit.SyncBit.{SyncBit}
 use Rattle.block_66b.specs.Blocks.{header, window}
@@ -101,13 +99,8 @@ module _ (old new : Counter) (p : Params) (x : Place) (bs later : List Bool) (n 
 
 -- ---- the block
 
-pub unpacked : (w : List Bool) (r : ℕ) → length w ≡ 66 → r ≡ value w
-    → bits 66 (bit_and r (2 ^ 66 - 1)) ≡ w
-unpacked w r size is =
-    let small : value w < 2 ^ 66 = subst (λ k. value w < 2 ^ k) size (value_below w) in
-    let low : bit_and r (2 ^ 66 - 1) ≡ value w = and_mask r 66 ∙ ap (λ k. k % 2 ^ 66) is
-    ∙ mod-eq_of_lt small in
-    ap (bits 66) low ∙ ap (λ k. bits k (value w)) (sym size) ∙ bits_of_value w
+pub unpacked : (w : List Bool) (r : ℕ) → length w ≡ 66 → r ≡ value w → bits 66 r ≡ w
+unpacked w r size is = ap (bits 66) is ∙ ap (λ k. bits k (value w)) (sym size) ∙ bits_of_value w
 
 pub payload-of : (w : List Bool) (u : ℕ) → length w ≡ 66 → u ≡ value (drop 2 w)
     → bits 64 u ≡ drop 2 w

@@ -160,7 +160,6 @@ held-first now p t taken x k f words size some not_b h answer begun =
     let tick = found_in_tick e (drop h.from bs) x.word f some size h.hunted.finds_none is in
     let fr = found-from e h.from all f (omega arith) (ap (found e) same ∙ is) in
     let low = tick.0 in
-    let r : f.rest % 66 ≡ f.rest = mod-eq_of_lt low in
     let rests = fr.rest in
     let whole = fr.whole in
     let none = no-headers e all fr.at (omega arith) in

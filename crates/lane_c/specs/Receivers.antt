@@ -184,8 +184,8 @@ pub record IsHeld (now : Held) (p : Params) (t : Timing) (taken : List Taken) : 
 
 -- a place was completed in the tick with these bits: no block came after its pattern yet
 pub record HasBegun (now : Held) (e : ℕ) (place : Found) (word : List Bool) : Type 0 where
-  pub windowed : HasWindowed now.window (place.rest % 66) word
-  pub rest : now.rest ≡ place.rest % 66
+  pub windowed : HasWindowed now.window place.rest word
+  pub rest : now.rest ≡ place.rest
   pub count : now.after ≡ 0
   pub next : now.place ≡ place.next
   pub counted : HasCounted now.loss e [] []

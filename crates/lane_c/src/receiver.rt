@@ -24,8 +24,6 @@ use multiblock::{Place, PlaceHunt};
 use std::alloc::Global;
 use std::marker::Model;
 
-const BLOCK: u128 = (1 << 66) - 1;
-
 /// A receiver lane: 66 bits a tick, and an elastic buffer of what it read (JESD204C.1, 64b/66b link
 /// layer: synchronization, check and descrambling).
 #[derive(Drop)]
@@ -182,7 +180,8 @@ impl RxLaneC {
     // The place was completed in the tick with these bits.
     #[inline(never)]
     fn hold(&mut self, place: &Place, bits: u128)
-        requires { bits < 2 ^ 66 }
+        requires bits { bits < 2 ^ 66 }
+        requires rest { place.now.rest < 66 }
         ensures held { HoldsFirst self.new.state self.old.params.e place.now (bits_of 66 bits) }
         ensures some { 1 ≤ self.old.params.e }
         ensures same { self.new ≡ record self.old { state = self.new.state } }
@@ -250,11 +249,12 @@ impl Held {
     // The place was completed in the tick with these bits.
     fn after(e: u32, place: &Place, bits: u128) -> Held
         requires bits { bits < 2 ^ 66 }
+        requires rest { place.now.rest < 66 }
         requires low { 1 ≤ e }
         requires high { e ≤ 32 }
         ensures { HasBegun result e place.now (bits_of 66 bits) }
     {
-        let rest = place.rest % 66;
+        let rest = place.rest;
         let mut window = BitWindow::new(rest);
         let _ = window.push(bits);
         Held {
@@ -316,7 +316,7 @@ impl Held {
           pipeline = self.new.pipeline;
         } }
     {
-        let (sync, payload) = unpack(self.window.push(bits) & BLOCK);
+        let (sync, payload) = unpack(self.window.push(bits));
         let (cell, ended) = self.pipeline.step(mode, at, end, sync, payload);
         let newly_lost = self.loss.push(is_bad(sync), ended);
         (cell, newly_lost)

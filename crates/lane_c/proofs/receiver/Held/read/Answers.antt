@@ -1,4 +1,4 @@
-use Rattle.std.proofs.Common.{◌≡◌, suc, ◌+◌, ◌-◌, ◌*◌, ◌^◌, Bool, List, [], ◌∷◌, ◌++◌, length, drop, map, sym, ◌∙◌, ap, arith, bit_and, subst}
+use Rattle.std.proofs.Common.{◌≡◌, suc, ◌+◌, ◌*◌, Bool, List, [], ◌∷◌, ◌++◌, length, drop, map, sym, ◌∙◌, ap, arith, subst}
 use Rattle.jesd_base.specs.Bits.{bits, value}
 use Rattle.jesd_base.proofs.BitLemmas.{bits_length}
 use Rattle.link_params.specs.declared.fields.Params.{Params}
@@ -35,7 +35,7 @@ module _ (c : goal.After-push-newly_lost) (p : Params) (t : Timing) (taken : Lis
   whole = block-size h.at (32 * pattern_size p.e + h.blocks) c.args.self.now.rest (bits_taken taken)
       (bits 66 c.args.bits) come size
 
-  is : bits 66 (bit_and c.push.result (2 ^ 66 - 1)) ≡ block_in h.at
+  is : bits 66 c.push.result ≡ block_in h.at
       (32 * pattern_size p.e + h.blocks) (bits_taken taken ++ bits 66 c.args.bits)
   is = unpacked _ c.push.result whole
       (c.push.ensures.answer c.args.self.now.rest (bits_taken taken) h.windowed
