@@ -74,6 +74,7 @@ impl Sink for MemSink {
         ensures next { IfOk result (λ n. self.new.bytes ≡ self.old.bytes ++ take n bytes.now) }
         ensures nothing { OnErr result (self.new.bytes ≡ self.old.bytes) }
         ensures failed { OnErr result (Rose self.old.faults self.new.faults) }
+        ensures same { IfOk result (λ _. self.new.faults ≡ self.old.faults) }
         ensures count { self.old.faults ≤ self.new.faults }
         ensures fails { IsErr result ↔ (Contains self.old.fails self.old.calls ⊎ (self.old.room ≤ length self.old.bytes)) }
         ensures piece { IfOk result (λ n. n ≡ min self.old.piece (min (length bytes.now) (self.old.room - length self.old.bytes))) }

@@ -62,6 +62,7 @@ impl Source for MemSource {
         ensures end { IfOk result (λ n. n ≡ 0 → self.old.left ≡ []) }
         ensures nothing { OnErr result (self.new.left ≡ self.old.left) }
         ensures failed { OnErr result (Rose self.old.faults self.new.faults) }
+        ensures same { IfOk result (λ _. self.new.faults ≡ self.old.faults) }
         ensures count { self.old.faults ≤ self.new.faults }
         ensures fails { IsErr result ↔ Contains self.old.fails self.old.calls }
         ensures piece { IfOk result (λ n. n ≡ min self.old.piece (min (length buf.old) (length self.old.left))) }

@@ -1,5 +1,5 @@
 //! A source of bytes.
-ghost use Rattle.std.specs.Prelude.{◌≡◌, ◌<◌, ◌≤◌, ℕ, List, Option, Err, length, take, IfOk, OnErr};
+ghost use Rattle.std.specs.Prelude.{◌≡◌, ◌≢◌, ◌<◌, ◌≤◌, ◌+◌, ℕ, List, Option, Err, length, take, IfOk, OnErr};
 ghost use Rattle.jesd_base.specs.Streams.{Rose, Gave, IsAtEnd};
 
 use std::alloc::Global;
@@ -18,7 +18,7 @@ pub trait Source {
 
     /// Puts the next bytes at the start of `buf`, and answers how many; 0 is the end.
     ///
-    /// `Failed` comes only where the count of faults rose, and takes nothing.
+    /// `Failed` comes only where the count of faults rose, and takes nothing. Else the count stays.
     fn read(&mut self, buf: &mut [u8]) -> Result<usize, Failed>
         requires { 0 < length buf.old }
         ensures room { IfOk result (λ n. n ≤ length buf.new) }
@@ -26,6 +26,7 @@ pub trait Source {
         ensures end { IfOk result (λ n. n ≡ 0 → IsAtEnd (left self.old)) }
         ensures nothing { OnErr result (left self.new ≡ left self.old) }
         ensures failed { OnErr result (Rose (faults self.old) (faults self.new)) }
+        ensures same { IfOk result (λ _. faults self.new ≡ faults self.old) }
         ensures count { faults self.old ≤ faults self.new };
 }
 
@@ -42,7 +43,8 @@ pub enum ReadAll {
 
 /// All bytes up to the end, which are at most `limit`.
 ///
-/// The bytes that were taken before an error are gone.
+/// The bytes that were taken before an error are gone: `limit` of them at most, and those of one
+/// buffer of 4,096 bytes. The source has failed exactly where `ReadFault` is answered.
 pub fn read_all<S: Source>(alloc: Global, input: &mut S, limit: usize) -> Result<Vec<u8>, ReadAll>
     ensures whole { IfOk result (λ v. Gave (S.left input.old) (S.left input.new) v.items × IsAtEnd (S.left input.new)) }
     ensures short { IfOk result (λ v. length v.items ≤ limit) }
@@ -51,6 +53,8 @@ pub fn read_all<S: Source>(alloc: Global, input: &mut S, limit: usize) -> Result
     ensures read_fault { result ≡ Err ReadAll.ReadFault
         → (given : List ℕ) × (length given ≤ limit) × Gave (S.left input.old) (S.left input.new) given }
     ensures rose { result ≡ Err ReadAll.ReadFault → Rose (S.faults input.old) (S.faults input.new) }
+    ensures most { (given : List ℕ) × (length given ≤ limit + 4096) × Gave (S.left input.old) (S.left input.new) given }
+    ensures same { result ≢ Err ReadAll.ReadFault → S.faults input.new ≡ S.faults input.old }
     ensures count { S.faults input.old ≤ S.faults input.new }
 {
     let mut all = Vec::new(alloc);
