@@ -1,5 +1,6 @@
--- What the readings of data characters give, before descrambling (JESD204B.01 clause 5.3.3.4): the octet of each place, and
--- whether it is bad. Places are counted in the data of a lane, from 0.
+-- What the readings of data characters give, before descrambling (JESD204B.01 clause 5.3.3.4): the
+-- octet of each place, and whether it is bad. Places are counted in the data of a lane, in octets
+-- from 0.
 -- Code: one octet kept, and its mark.
 use Rattle.std.specs.Prelude.{◌≡◌, ℕ, ◌-◌, ◌==◌, ◌<◌, nat_le, Bool, true, false, not, ◌&&◌, ◌||◌, if◌then◌else◌, List, length, slice_get, Some}
 use Rattle.std.specs.List.{slice_index_or}
@@ -8,6 +9,7 @@ use Rattle.code_8b10b.specs.declared.character.Char.{Char}
 use Rattle.code_8b10b.specs.declared.character.Char.TheVariants.{Data, Control}
 use Rattle.code_8b10b.specs.declared.character.Reading.{Reading}
 use Rattle.code_8b10b.specs.declared.character.Reading.TheVariants.{Char as Read, Disparity, Invalid}
+use Rattle.code_8b10b.specs.Reads.{octet_read}
 use Rattle.char_replace.specs.declared.restored.Restored.{Restored}
 use Rattle.char_replace.specs.Replacement.{is_data, ends_multiframe, ends_frame}
 
@@ -23,16 +25,6 @@ abbrev pub is_bad_char : Params → ℕ → Reading → Bool
 is_bad_char p x (Read c) = not (is_data c) && not (is_accepted p x c)
 is_bad_char p x (Disparity c) = true
 is_bad_char p x Invalid = true
-
--- the octet of a reading; 0 for an invalid one
-abbrev pub octet_of_char : Char → ℕ
-octet_of_char (Data o) = o
-octet_of_char (Control o) = o
-
-abbrev pub octet_read : Reading → ℕ
-octet_read (Read c) = octet_of_char c
-octet_read (Disparity c) = octet_of_char c
-octet_read Invalid = 0
 
 -- without scrambling an accepted alignment character repeats what the place a frame before gave
 abbrev pub is_repeat : Params → ℕ → Reading → Bool

@@ -16,6 +16,7 @@ mod restored;
 mod tests;
 
 pub use laws::replacement_laws;
+pub use places::is_alignment_of;
 pub use replace::Replace;
 pub use restore::Restore;
 pub use restored::Restored;

@@ -1,17 +1,19 @@
 //! What ends at a place of a multiframe.
-ghost use Rattle.std.specs.Prelude.{ℕ, ◌≡◌, ◌%◌, ◌+◌, ◌==◌};
+ghost use Rattle.std.specs.Prelude.{ℕ, ◌≡◌, ◌%◌, ◌+◌, ◌==◌, ◌&&◌, ◌||◌, not};
 ghost use Rattle.link_params.specs.Numbers.{period};
 ghost use Rattle.char_replace.specs.Kept.{IsSerial};
 ghost use Rattle.char_replace.specs.Replacement.{ends_multiframe, is_data};
 
-use code_8b10b::Char;
+use code_8b10b::{Char, K28_3, K28_7};
 use link_params::Params;
 
-/// /A/, K28.3.
-pub(crate) const ALIGNMENT_A: u8 = 0x7C;
-
-/// /F/, K28.7.
-pub(crate) const ALIGNMENT_F: u8 = 0xFC;
+/// Whether a control character is the alignment character of a place: /A/ where a multiframe ends
+/// (`whole`), /F/ where another frame does (`end`: a frame ends there).
+pub fn is_alignment_of(octet: u8, end: bool, whole: bool) -> bool
+    ensures { result ≡ (((octet == 0x7C) && whole) || ((octet == 0xFC) && (end && not whole))) }
+{
+    octet == K28_3 && whole || octet == K28_7 && end && !whole
+}
 
 /// Whether a frame ends at this place of a multiframe.
 pub(crate) fn is_frame_end(params: &Params, place: u32) -> bool

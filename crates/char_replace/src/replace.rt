@@ -6,8 +6,8 @@ ghost use Rattle.link_params.specs.Numbers.{period};
 ghost use Rattle.code_8b10b.specs.declared.character.Char.{Char as CharValue};
 ghost use Rattle.char_replace.specs.Kept.{HasReplaced, char_by_kept};
 
-use crate::places::{ALIGNMENT_A, ALIGNMENT_F, is_data, is_frame_end, is_multiframe_end};
-use code_8b10b::Char;
+use crate::places::{is_data, is_frame_end, is_multiframe_end};
+use code_8b10b::{Char, K28_3, K28_7};
 use link_params::{Params, Shape};
 use std::marker::Model;
 
@@ -69,16 +69,16 @@ impl Replace {
     {
         if self.params.scr {
             return match octet {
-                ALIGNMENT_A if whole => Char::Control(ALIGNMENT_A),
-                ALIGNMENT_F if !whole => Char::Control(ALIGNMENT_F),
+                K28_3 if whole => Char::Control(K28_3),
+                K28_7 if !whole => Char::Control(K28_7),
                 _ => Char::Data(octet),
             };
         }
         let alike = self.begun && octet == self.last;
         if whole && alike {
-            Char::Control(ALIGNMENT_A)
+            Char::Control(K28_3)
         } else if !whole && alike && self.as_data {
-            Char::Control(ALIGNMENT_F)
+            Char::Control(K28_7)
         } else {
             Char::Data(octet)
         }

@@ -7,7 +7,7 @@ ghost use Rattle.code_8b10b.specs.declared.character.Reading.{Reading as Reading
 ghost use Rattle.char_replace.specs.declared.restored.Restored.{Restored as RestoredValue};
 ghost use Rattle.char_replace.specs.Kept.{HasRestored, accepted_by_kept, given_by_kept, given_of_char};
 
-use crate::places::{ALIGNMENT_A, ALIGNMENT_F, is_frame_end, is_multiframe_end};
+use crate::places::{is_alignment_of, is_frame_end, is_multiframe_end};
 use crate::restored::Restored;
 use code_8b10b::{Char, Reading};
 use link_params::{Params, Shape};
@@ -121,7 +121,6 @@ impl Restore {
     fn is_accepted(&self, end: bool, whole: bool, octet: u8) -> bool
         ensures { result ≡ accepted_by_kept self.now end whole octet }
     {
-        let stands = octet == ALIGNMENT_A && whole || octet == ALIGNMENT_F && end && !whole;
-        stands && (self.params.scr || self.begun)
+        is_alignment_of(octet, end, whole) && (self.params.scr || self.begun)
     }
 }

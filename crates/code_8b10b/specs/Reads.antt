@@ -1,4 +1,5 @@
--- What ten bits read as, as a function: the one reading r with `IsReading rd w r`. For definitions that compute.
+-- What ten bits read as, as a function: the one reading r with `IsReading rd w r`. For definitions
+-- that compute.
 -- Code: a table of 1,024 entries for each disparity.
 use Rattle.std.specs.Prelude.{ℕ, suc, ◌+◌, ◌*◌, ◌/◌, ◌%◌, ◌==◌, if◌then◌else◌, List, [], ◌∷◌, Option, Some, None, option_map, option_and_then, find}
 use Rattle.code_8b10b.specs.declared.character.Rd.{Rd}
@@ -39,6 +40,17 @@ reading_of None None = Invalid
 -- the reading as a function: the one r with IsReading rd w r
 unfoldable pub reading : Rd → ℕ → Reading
 reading rd w = let at_other = char_at (other rd) w in reading_of (char_at rd w) at_other
+
+-- the octet of a character
+abbrev pub octet_of_char : Char → ℕ
+octet_of_char (Data o) = o
+octet_of_char (Control o) = o
+
+-- the octet of a reading; 0 for an invalid one
+abbrev pub octet_read : Reading → ℕ
+octet_read (Read c) = octet_of_char c
+octet_read (Disparity c) = octet_of_char c
+octet_read Invalid = 0
 
 -- the readings of words, in one chain of disparities
 unfoldable pub readings : Rd → List ℕ → List Reading

@@ -1,4 +1,6 @@
--- The check of a received alignment sequence: the first place that breaks a rule, and why.
+-- The check of a received alignment sequence: the first place that breaks a rule, and why
+-- (JESD204B.01 clauses 5.3.3.5 initial lane alignment and 8.3 link configuration data; the causes
+-- are this project's own). A place counts characters from the start of the sequence.
 -- Code: one reading at a time, with the configuration octets so far.
 use Rattle.std.specs.Prelude.{ℕ, suc, ◌+◌, ◌-◌, ◌*◌, ◌==◌, nat_le, nat_lt, Bool, true, false, ◌&&◌, if◌then◌else◌, List, [], ◌∷◌, map, length, take, drop, Option, Some, None}
 use Rattle.link_params.specs.declared.fields.Params.{Params}
@@ -12,6 +14,7 @@ use Rattle.code_8b10b.specs.declared.character.Char.{Char}
 use Rattle.code_8b10b.specs.declared.character.Char.TheVariants.{Data, Control}
 use Rattle.code_8b10b.specs.declared.character.Reading.{Reading}
 use Rattle.code_8b10b.specs.declared.character.Reading.TheVariants.{Char as Read, Disparity, Invalid}
+pub use Rattle.code_8b10b.specs.Reads.{octet_of_char, octet_read}
 use Rattle.ilas.specs.Sequence.{ilas_char}
 
 -- the receiver allows a character at a place: the stated control character, or any data
@@ -20,16 +23,6 @@ is_allowed (Control a) (Control c) = a == c
 is_allowed (Control a) (Data o) = false
 is_allowed (Data a) (Data o) = true
 is_allowed (Data a) (Control c) = false
-
-abbrev pub octet_of_char : Char → ℕ
-octet_of_char (Data o) = o
-octet_of_char (Control o) = o
-
--- the octet of a reading; 0 for an invalid one
-abbrev pub octet_read : Reading → ℕ
-octet_read (Read c) = octet_of_char c
-octet_read (Disparity c) = octet_of_char c
-octet_read Invalid = 0
 
 -- the fourteen configuration octets among the readings since place 0
 abbrev pub config_read : Params → List Reading → List ℕ

@@ -126,8 +126,8 @@ fn octet_read(reading: Reading) -> u8
     }
 }
 
-// Whether the receiver allows `c` where `due` is sent: the same control character, or any data.
-fn is_allowed(due: Char, c: Char) -> bool
+/// Whether the receiver allows `c` where `due` is sent: the same control character, or any data.
+pub fn is_allowed(due: Char, c: Char) -> bool
     ensures { result ≡ is_allowed due c }
 {
     match (due, c) {

@@ -1,7 +1,7 @@
 //! The initial lane alignment sequence of a lane: what is sent, and the check of what is received.
 //!
 //! ```text
-//! let c = ilas_char(&link, 0, 0); // Char::Control(0x1C)
+//! let c = ilas_char(&link, 0, 0); // Char::Control(K28_0)
 //! let mut check = IlasCheck::new(&link, 0);
 //! let state = check.push(reading); // IlasState::Going
 //! ```
@@ -12,5 +12,5 @@ mod sequence;
 #[cfg(test)]
 mod tests;
 
-pub use check::IlasCheck;
+pub use check::{IlasCheck, is_allowed};
 pub use sequence::{ilas, ilas_char};

@@ -5,15 +5,8 @@ ghost use Rattle.link_params.specs.Numbers.{period};
 ghost use Rattle.ilas.specs.Sequence.{ilas_char};
 ghost use Rattle.ilas.specs.SequenceLaws.{CharAtEachPlace};
 
-use code_8b10b::Char;
+use code_8b10b::{Char, K28_0, K28_3, K28_4};
 use link_params::{Link, config_octets};
-
-// /R/, /A/ and /Q/.
-const BEGINNING: u8 = 0x1C;
-
-const END: u8 = 0x7C;
-
-const CONFIGURATION: u8 = 0x9C;
 
 /// The character of a place of the sequence, counted from 0: four multiframes, each from /R/ to /A/. The second one has
 /// /Q/ and the configuration octets behind its /R/, and every other place is data, its number modulo 256.
@@ -26,14 +19,14 @@ pub fn ilas_char(link: &Link, lane: u32, place: u32) -> Char
     let period = link.shape().period();
     let at = place % period;
     if at == 0 {
-        return Char::Control(BEGINNING);
+        return Char::Control(K28_0);
     }
     if at + 1 == period {
-        return Char::Control(END);
+        return Char::Control(K28_3);
     }
     if place / period == 1 {
         if at == 1 {
-            return Char::Control(CONFIGURATION);
+            return Char::Control(K28_4);
         }
         if at <= 15 {
             return Char::Data(config_octets(link, lane)[(at - 2) as usize]);

@@ -2,18 +2,12 @@
 ghost use Rattle.std.specs.Prelude.{◌≡◌, ◌<◌, ◌*◌};
 ghost use Rattle.link_params.specs.declared.fields.Mode.TheVariants.{B};
 ghost use Rattle.link_params.specs.Numbers.{period};
-ghost use Rattle.ilas.specs.Checked.{is_allowed};
 ghost use Rattle.lane_b.specs.Loss.{alignment_at, is_accepted_since, is_alignment, is_wrong_in_ilas, stands_in_ilas};
 
-use code_8b10b::{Char, Reading};
-use ilas::ilas_char;
+use char_replace::is_alignment_of;
+use code_8b10b::{Char, K28_3, K28_7, Reading};
+use ilas::{ilas_char, is_allowed};
 use link_params::{Link, Shape};
-
-// /A/, K28.3.
-const ALIGNMENT_A: u8 = 0x7C;
-
-// /F/, K28.7.
-const ALIGNMENT_F: u8 = 0xFC;
 
 /// Whether a reading is a fault at a place of the alignment sequence.
 pub fn is_wrong_in_ilas(link: &Link, place: u32, reading: Reading) -> bool
@@ -25,17 +19,6 @@ pub fn is_wrong_in_ilas(link: &Link, place: u32, reading: Reading) -> bool
     match reading {
         Reading::Char(c) => !is_allowed(ilas_char(link, 0, place), c),
         Reading::Disparity(_) | Reading::Invalid => true,
-    }
-}
-
-// Whether the receiver allows `c` where `due` is sent: the same control character, or any data.
-fn is_allowed(due: Char, c: Char) -> bool
-    ensures { result ≡ is_allowed due c }
-{
-    match (due, c) {
-        (Char::Control(due), Char::Control(octet)) => due == octet,
-        (Char::Data(_), Char::Data(_)) => true,
-        (Char::Control(_), Char::Data(_)) | (Char::Data(_), Char::Control(_)) => false,
     }
 }
 
@@ -74,11 +57,11 @@ fn stands(shape: &Shape, place: u32, c: Char) -> bool
     let (period, frame) = (shape.period(), shape.frame_octets());
     let whole = place % period + 1 == period;
     let end = place % frame + 1 == frame;
-    octet == ALIGNMENT_A && whole || octet == ALIGNMENT_F && end && !whole
+    is_alignment_of(octet, end, whole)
 }
 
 fn is_alignment(c: Char) -> bool
     ensures { result ≡ is_alignment c }
 {
-    matches!(c, Char::Control(ALIGNMENT_A | ALIGNMENT_F))
+    matches!(c, Char::Control(K28_3 | K28_7))
 }

@@ -16,15 +16,12 @@ ghost use Rattle.lane_b.specs.Ticks.{Does, Reads, Keeps};
 
 use crate::chars::Chars;
 use crate::started::Started;
-use code_8b10b::{Char, Hunt, Reading};
+use code_8b10b::{Char, Hunt, K28_5, Reading};
 use elastic_buffer::ElasticBuffer;
 use jesd_base::NoMemory;
 use link_params::{IlasState, LaneCell, LaneReport, Link, Mark, RxOrder};
 use std::alloc::Global;
 use std::marker::Model;
-
-// /K/, K28.5.
-const COMMA: u8 = 0xBC;
 
 /// A receiver lane: ten bits a tick, and an elastic buffer of what it read.
 #[derive(Drop)]
@@ -292,7 +289,7 @@ fn is_comma(reading: Reading) -> bool
 {
     match reading {
         Reading::Char(Char::Control(octet)) | Reading::Disparity(Char::Control(octet)) => octet
-            == COMMA,
+            == K28_5,
         _ => false,
     }
 }

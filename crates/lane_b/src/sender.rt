@@ -8,14 +8,11 @@ ghost use Rattle.lane_b.specs.Sent.{char_of, coded_octets, data_char, data_octet
 ghost use Rattle.lane_b.specs.Senders.{Follows, FollowsData, GoesOn, HasSent, HasSpellings, IsSameLink, MayGoOn, ScramblesSo, next_place};
 
 use char_replace::Replace;
-use code_8b10b::{Char, Rd, encode};
+use code_8b10b::{Char, K28_5, Rd, encode};
 use ilas::ilas_char;
 use lane_scramble::Scr15;
 use link_params::{Link, TxOrder};
 use std::marker::Model;
-
-// /K/, K28.5.
-const COMMA: u8 = 0xBC;
 
 /// A transmitter lane: ten bits a tick.
 #[derive(Drop)]
@@ -109,7 +106,7 @@ impl TxLaneB {
             }
             _ => {
                 self.next = None;
-                Char::Control(COMMA)
+                Char::Control(K28_5)
             }
         }
     }
