@@ -1,4 +1,5 @@
--- The command as clap sees it, and what clap makes of the words.
+-- The command as clap sees it, and what clap makes of the words (this project's own).
+-- Code: clap is called.
 use Rattle.std.specs.Prelude.{true, List, [], ◌∷◌, Option, Some, None, codes}
 use Rattle.clap.specs.Walk.{Text, Row, first_of}
 use Rattle.clap.specs.Simple.{App, new_app, new_rule, with_rule, matches_of, on_top}

@@ -1,4 +1,5 @@
 -- What was found, by its texts.
+-- Code: the fields themselves.
 use Rattle.std.specs.Prelude.{option_map, Option, List, ℕ}
 use Rattle.std.specs.Borrow.{Bor}
 use Rattle.bench_words.specs.Clap.{Given}

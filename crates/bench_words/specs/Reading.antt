@@ -1,5 +1,5 @@
--- What the words of the command line say: read from left to right into items, and the items into what is asked for
--- (this project's own).
+-- What the words of the command line say: read from left to right into items, and the items into
+-- what is asked for (this project's own).
 -- Code: read with clap.
 use Rattle.std.specs.Prelude.{ℕ, Bool, true, false, List, [], ◌∷◌, map, Option, Some, None, if◌then◌else◌, codes, length, take, drop, ◌&&◌, nat_lt, nat_le, option_and_then, option_map}
 use Rattle.std.specs.Str.{bytes_eq}

@@ -1,5 +1,5 @@
--- Blocks of 66 bits: two bits of header and 64 of payload (JESD204C.1, 64b/66b link layer, block format; the order
--- of bits is this project's own).
+-- Blocks of 66 bits: two bits of header and 64 of payload (JESD204C.1, 64b/66b link layer, block
+-- format; the order of bits is this project's own).
 -- Code: shifts of a u128.
 use Rattle.std.specs.Prelude.{◌≡◌, ℕ, ◌-◌, Bool, true, false, List, ◌∷◌, ◌++◌, length, take, drop}
 use Rattle.jesd_base.specs.Bits.{bits, value, zeros}

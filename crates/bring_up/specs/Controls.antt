@@ -1,4 +1,5 @@
--- What a receiver's control keeps of its decisions.
+-- What a receiver's control keeps of its decisions: a count in their place.
+-- Code: the fields themselves.
 use Rattle.std.specs.Prelude.{◌≡◌, ◌≤◌, ◌<◌, ℕ, ◌+◌, ◌-◌, ◌%◌, ◌==◌, nat_lt, not, if◌then◌else◌, List, [], ◌∷◌, length, count_by}
 use Rattle.link_params.specs.declared.fields.Params.{Params}
 use Rattle.link_params.specs.declared.fields.Timing.{Timing}

@@ -1,5 +1,7 @@
--- The receiver's decisions, by cases on the stage, the reports, and how many decisions there were since the stage began
--- (JESD204B.01 clauses 5.3.3 link operation and 6 deterministic latency; the counts, classes and alarms are this project's own).
+-- The receiver's decisions, by cases on the stage, the reports, and how many decisions there were
+-- since the stage began (JESD204B.01 clauses 5.3.3 link operation and 6 deterministic latency; the
+-- counts, classes and alarms are this project's own). A decision falls at each release point, once
+-- a period.
 -- Code: counters, and a row that is filled.
 use Rattle.std.specs.Prelude.{ℕ, suc, ◌+◌, ◌-◌, ◌%◌, ◌==◌, nat_le, Bool, true, false, not, ◌&&◌, if◌then◌else◌, List, [], ◌∷◌, ◌++◌, count_by, length, Option, Some, None, is_some}
 use Rattle.std.specs.List.{list_any, list_all}

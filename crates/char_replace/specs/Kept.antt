@@ -1,4 +1,5 @@
 -- What a replacing sender and a restoring receiver keep, as contracts see them.
+-- Code: the fields themselves.
 use Rattle.std.specs.Prelude.{◌≡◌, ℕ, ◌-◌, ◌%◌, ◌==◌, ◌≤◌, nat_le, Bool, true, false, not, ◌&&◌, ◌||◌, if◌then◌else◌, List, length, slice_index, None}
 use Rattle.std.specs.List.{slice_index_or}
 use Rattle.link_params.specs.declared.fields.Params.{Params}

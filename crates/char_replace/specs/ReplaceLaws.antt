@@ -1,4 +1,5 @@
 -- Laws of replacement.
+-- Code: none of this is computed.
 use Rattle.std.specs.Prelude.{◌≡◌, ℕ, ◌<◌, false, List, map, length, slice_get, slice_index, None, Some}
 use Rattle.link_params.specs.declared.fields.Params.{Params}
 use Rattle.link_params.specs.declared.fields.Mode.TheVariants.{B}

@@ -1,5 +1,6 @@
--- Alignment characters in the place of data octets (JESD204B.01 clause 5.3.3.4, character replacement). Places are counted in the
--- data of a lane, from 0. That nothing is replaced in the first frame is this project's own.
+-- Alignment characters in the place of data octets (JESD204B.01 clause 5.3.3.4, character
+-- replacement). Places are counted in the data of a lane, in octets from 0. That nothing is
+-- replaced in the first frame is this project's own.
 -- Code: one octet kept, and a flag.
 use Rattle.std.specs.Prelude.{◌≡◌, ℕ, ◌+◌, ◌-◌, ◌%◌, ◌==◌, ◌<◌, nat_le, Bool, true, false, not, ◌&&◌, if◌then◌else◌, List, length, slice_get, slice_index, Some}
 use Rattle.std.specs.List.{slice_index_or}

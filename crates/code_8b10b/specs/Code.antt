@@ -1,5 +1,5 @@
--- The 8b/10b code (IEEE 802.3 clause 36.2.4, tables 36-1 and 36-2; JESD204B.01 clause 5.3.1). Ten bits are a number
--- below 1024 whose highest bit is bit a, sent first.
+-- The 8b/10b code (IEEE 802.3 clause 36.2.4, tables 36-1 and 36-2; JESD204B.01 clause 5.3.1). Ten
+-- bits are a number below 1024 whose highest bit is bit a, sent first.
 -- Code: tables by number, one look-up for each direction.
 use Rattle.std.specs.Prelude.{◌≡◌, ◌≢◌, ℕ, ◌+◌, ◌*◌, ◌/◌, ◌%◌, ◌==◌, nat_lt, ◌||◌, if◌then◌else◌, List, [], ◌∷◌, slice_index, Option, Some, None, option_map, find}
 use Rattle.code_8b10b.specs.declared.character.Rd.{Rd}

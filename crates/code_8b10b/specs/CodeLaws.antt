@@ -1,4 +1,5 @@
 -- Laws of the code.
+-- Code: none of this is computed.
 use Rattle.std.specs.Prelude.{◌≡◌, ℕ, ◌<◌, Some}
 use Rattle.code_8b10b.specs.declared.character.Rd.{Rd}
 use Rattle.code_8b10b.specs.declared.character.Char.{Char}

@@ -1,4 +1,5 @@
--- Laws of the commas' places.
+-- Laws of the commas' places, which count bits.
+-- Code: none of this is computed.
 use Rattle.std.specs.Prelude.{◌≡◌, ◌≢◌, ℕ, ◌+◌, ◌%◌, ◌<◌, Bool, true, false, List, [], ◌∷◌, slice_index_or, Some, None}
 use Rattle.std.specs.List.{flat_map}
 use Rattle.jesd_base.specs.Bits.{bits, value}

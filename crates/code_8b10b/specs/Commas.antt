@@ -1,5 +1,6 @@
--- The comma hunt (JESD204B.01 clause 5.3.3.1, code group synchronization): forty bits that spell /K/ four times.
--- Bits, not characters, are the places. Code: shifts and compares of the last bits, for ten phases.
+-- The comma hunt (JESD204B.01 clause 5.3.3.1, code group synchronization): forty bits that spell
+-- /K/ four times. Bits, not characters, are the places.
+-- Code: shifts and compares of the last bits, for ten phases.
 use Rattle.std.specs.Prelude.{◌≡◌, ℕ, suc, ◌+◌, ◌-◌, Bool, true, false, ◌||◌, if◌then◌else◌, List, [], ◌∷◌, length, take, drop, Option, Some, None, option_map}
 use Rattle.std.specs.List.{flat_map}
 use Rattle.jesd_base.specs.Bits.{bits, value}

@@ -1,4 +1,5 @@
 -- How the entries of the tables hold spellings and readings. Not seen by callers.
+-- Code: shifts and masks of an entry.
 use Rattle.std.specs.Prelude.{ℕ, ◌/◌, ◌%◌, ◌==◌, nat_lt, if◌then◌else◌, Option, Some, None}
 use Rattle.code_8b10b.specs.declared.character.Rd.{Rd}
 use Rattle.code_8b10b.specs.declared.character.Rd.TheVariants.{Minus, Plus}

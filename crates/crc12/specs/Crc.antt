@@ -1,5 +1,5 @@
--- CRC-12 of a 64b/66b multiblock (JESD204C.1, 64b/66b link layer, cyclic redundancy check; the divisor, the
--- start value and the bits that are covered are this project's own).
+-- CRC-12 of a 64b/66b multiblock (JESD204C.1, 64b/66b link layer, cyclic redundancy check; the
+-- divisor, the start value and the bits that are covered are this project's own).
 -- Code: a table of 256 entries, a byte at a time.
 use Rattle.std.specs.Prelude.{◌≡◌, ℕ, Bool, List, ◌++◌}
 use Rattle.jesd_base.specs.Bits.{bits, value, zeros}

@@ -1,4 +1,6 @@
--- An elastic buffer as contracts see it (JESD204B.01 clause 6, deterministic latency).
+-- An elastic buffer as contracts see it (JESD204B.01 clause 6, deterministic latency). Its depth
+-- counts cells.
+-- Code: a circular buffer whose memory is taken when it is opened.
 use Rattle.std.specs.Prelude.{ℕ, List}
 use Rattle.link_params.specs.declared.cells.LaneCell.{LaneCell}
 

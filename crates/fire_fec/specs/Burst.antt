@@ -1,6 +1,7 @@
--- The shortened Fire code of a 64b/66b multiblock (JESD204C.1, 64b/66b link layer, forward error correction): parity, and
--- the one burst of at most nine bits that explains a received word of 2,048 payload bits and 26 check bits. The
--- divisor, the bits that are covered, and that one burst of at most nine bits is corrected, are this project's own.
+-- The shortened Fire code of a 64b/66b multiblock (JESD204C.1, 64b/66b link layer, forward error
+-- correction): parity, and the one burst of at most nine bits that explains a received word of
+-- 2,048 payload bits and 26 check bits. The divisor, the bits that are covered, and that one burst
+-- of at most nine bits is corrected, are this project's own. Places count bits of the word.
 -- Code: by tables of bytes, and by shifting the remainder until the burst is trapped.
 use Rattle.std.specs.Prelude.{ℕ, ◌-◌, Bool, ◌&&◌, List, ◌++◌, length, take, drop, Option, option_map}
 use Rattle.jesd_base.specs.Bits.{bits, zeros, all_zero}

@@ -1,4 +1,5 @@
 -- Laws of bursts.
+-- Code: none of this is computed.
 use Rattle.std.specs.Prelude.{◌≡◌, ℕ, ◌<◌, ◌≤◌, Bool, true, false, List, length, Some}
 use Rattle.jesd_base.specs.Bits.{all_zero}
 use Rattle.jesd_base.specs.Division.{rem}

@@ -1,4 +1,5 @@
 -- Laws of parity and correction.
+-- Code: none of this is computed.
 use Rattle.std.specs.Prelude.{◌≡◌, ℕ, ◌^◌, ◌<◌, ◌≤◌, true, List, length}
 use Rattle.jesd_base.specs.Bits.{value, all_zero}
 use Rattle.jesd_base.specs.Division.{rem}

@@ -1,4 +1,5 @@
--- What a correction answers.
+-- What a correction answers (JESD204C.1, 64b/66b link layer, forward error correction).
+-- Code: from the remainder of the word alone, as `Shifting` says.
 use Rattle.std.specs.Prelude.{◌≡◌, ℕ, true, false, List, ◌++◌, Bool, take, Some, None}
 use Rattle.std.specs.List.{flat_map}
 use Rattle.jesd_base.specs.Bits.{bits, all_zero}

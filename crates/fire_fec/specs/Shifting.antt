@@ -1,4 +1,5 @@
 -- The same burst, found from the remainder of the word alone. The remainder is a number of 26 bits.
+-- Code: from the last start back: the remainder is divided by x until nine bits are left.
 use Rattle.std.specs.Prelude.{◌≡◌, ℕ, zero, suc, ◌*◌, ◌/◌, ◌%◌, ◌==◌, nat_lt, nat_le, Bool, true, false, ◌&&◌, List, length, Option, Some, None, if◌then◌else◌, bit_xor}
 use Rattle.jesd_base.specs.Bits.{value}
 use Rattle.jesd_base.specs.Division.{rem}

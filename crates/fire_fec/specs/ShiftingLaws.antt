@@ -1,4 +1,5 @@
 -- Laws of a remainder that is multiplied or divided by x.
+-- Code: none of this is computed.
 use Rattle.std.specs.Prelude.{◌≡◌, ℕ, ◌^◌, ◌<◌}
 use Rattle.fire_fec.specs.Shifting.{times_x, over_x}
 use Rattle.fire_fec.specs.Taking.{times_power}

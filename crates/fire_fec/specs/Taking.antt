@@ -1,7 +1,7 @@
 -- What a remainder becomes when it is multiplied by powers of x and takes blocks in (JESD204C.1,
 -- 64b/66b link layer, forward error correction). A remainder is a number of 26 bits, of which bit
--- 25 has the highest power. Code: a block at once by eight tables of octets, and a shift of a
--- u32.
+-- 25 has the highest power.
+-- Code: a block at once by eight tables of octets, and a shift of a u32.
 use Rattle.std.specs.Prelude.{ℕ, ◌++◌}
 use Rattle.jesd_base.specs.Bits.{bits, value, zeros}
 use Rattle.jesd_base.specs.Division.{add_bits, rem}

@@ -1,4 +1,5 @@
 -- A check of the sequence, as contracts see it.
+-- Code: the fields themselves.
 use Rattle.std.specs.Prelude.{◌≡◌, ℕ, ◌+◌, ◌-◌, ◌*◌, ◌<◌, nat_le, nat_lt, ◌&&◌, Bool, true, false, if◌then◌else◌, List, length, take, slice_set}
 use Rattle.link_params.specs.declared.fields.Params.{Params}
 use Rattle.link_params.specs.declared.ilas_state.IlasState.{IlasState}

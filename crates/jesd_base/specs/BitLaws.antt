@@ -1,4 +1,5 @@
--- Laws of bits and numbers.
+-- Laws of bits and numbers, for every number and every list of bits.
+-- Code: none of this is computed.
 use Rattle.std.specs.Prelude.{◌≡◌, ℕ, ◌+◌, ◌*◌, ◌/◌, ◌%◌, ◌^◌, ◌<◌, Bool, List, ◌++◌, length}
 use Rattle.jesd_base.specs.Bits.{bits, value, zeros}
 

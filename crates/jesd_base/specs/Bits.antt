@@ -1,4 +1,6 @@
--- Bits and numbers. A bit is a Bool; the first bit of a list is the most significant, and came first on its line.
+-- Bits and numbers. A bit is a Bool; the first bit of a list is the most significant, and came
+-- first on its line.
+-- Code: shifts and masks of whole numbers.
 use Rattle.std.specs.Prelude.{ℕ, zero, suc, ◌+◌, ◌*◌, ◌^◌, ◌==◌, Bool, true, false, not, if◌then◌else◌, List, [], ◌∷◌, length}
 use Rattle.std.specs.Int.{bit_at}
 

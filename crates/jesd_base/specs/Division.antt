@@ -1,4 +1,5 @@
--- Polynomials modulo 2 as lists of bits, the first bit having the highest power, and plain long division.
+-- Polynomials modulo 2 as lists of bits, the first bit having the highest power, and plain long
+-- division.
 -- Code: byte tables and shift registers.
 use Rattle.std.specs.Prelude.{ℕ, zero, suc, ◌-◌, Bool, true, false, List, [], ◌∷◌, length}
 use Rattle.jesd_base.specs.Bits.{add}

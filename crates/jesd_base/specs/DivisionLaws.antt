@@ -1,4 +1,5 @@
 -- Laws of long division.
+-- Code: none of this is computed.
 use Rattle.std.specs.Prelude.{◌≡◌, ℕ, ◌<◌, ◌≤◌, Bool, true, false, List, [], ◌∷◌, ◌++◌, length, bit_xor}
 use Rattle.jesd_base.specs.Bits.{value, zeros}
 use Rattle.jesd_base.specs.Division.{add_bits, rem}

@@ -1,4 +1,6 @@
--- A source and a sink in memory, as contracts see them.
+-- A source and a sink in memory, as contracts see them. Pieces and room count bytes; calls and
+-- faults stay at 2^64 - 1 once they are there.
+-- Code: all bytes, and the place of the next one.
 use Rattle.std.specs.Prelude.{ℕ, List}
 
 -- a source in memory: the bytes left, how many a call gives at most, which calls fail, and how many were made and failed

@@ -1,4 +1,5 @@
 -- The first place that passes a test.
+-- Code: loops, or arithmetic, where a search is used.
 use Rattle.std.specs.Prelude.{◌≡◌, ℕ, zero, suc, ◌+◌, ◌<◌, ◌≤◌, Bool, true, false, if◌then◌else◌, Option, Some, None}
 
 -- the least number from p on, among n numbers, that passes the test

@@ -1,4 +1,5 @@
 -- Ten bits that stand across the words of two ticks.
+-- Code: a shift of twenty bits.
 use Rattle.std.specs.Prelude.{ℕ, ◌-◌, Bool, List, ◌++◌, take, drop}
 
 -- the ten bits that end `rest` bits before the end of the second word

@@ -1,4 +1,5 @@
 -- What a receiver lane keeps of its data, as contracts see it.
+-- Code: the fields themselves.
 use Rattle.std.specs.Prelude.{◌≡◌, ℕ, Bool, false, List, [], ◌∷◌, map, length}
 use Rattle.std.specs.List.{flat_map}
 use Rattle.jesd_base.specs.Bits.{bits}

@@ -1,4 +1,5 @@
 -- The counts of faults that a receiver lane keeps, as contracts see them.
+-- Code: the fields themselves.
 use Rattle.std.specs.Prelude.{◌≡◌, ℕ, suc, ◌+◌, ◌*◌, min, Bool, true, false, ◌||◌, List, [], ◌∷◌, reverse, take}
 use Rattle.jesd_base.specs.Bits.{bit}
 use Rattle.lane_b.specs.Loss.{has_four_faults, has_four_misplaced}

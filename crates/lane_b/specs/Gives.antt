@@ -1,4 +1,6 @@
--- What waits in a receiver lane's elastic buffer, and what it gives.
+-- What waits in a receiver lane's elastic buffer, and what it gives. Counts are of entries, one a
+-- tick (JESD204B.01 clause 6, deterministic latency).
+-- Code: cells, and how many of them stand for places.
 use Rattle.std.specs.Prelude.{◌≡◌, ◌≤◌, ◌-◌, ℕ, zero, suc, List, [], ◌∷◌, length, drop, Option, Some, None}
 use Rattle.link_params.specs.declared.cells.LaneCell.{LaneCell}
 use Rattle.link_params.specs.Lanes.{Entry, Placed, Held}

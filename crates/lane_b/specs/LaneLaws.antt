@@ -1,4 +1,5 @@
--- Laws of 8b/10b lanes.
+-- Laws of 8b/10b lanes. Bits are counted from the first one of the hunt.
+-- Code: none of this is computed.
 use Rattle.std.specs.Prelude.{◌≡◌, ◌≤◌, ◌<◌, ℕ, min, Bool, true, false, List, [], ◌∷◌, ◌++◌, map, replicate, length, take, slice_get, Option, Some, None}
 use Rattle.std.specs.List.{All}
 use Rattle.link_params.specs.declared.fields.Params.{Params}

@@ -1,5 +1,6 @@
--- Where characters begin on a received 8b/10b lane, and where its alignment sequence starts (JESD204B.01 clauses 5.3.3.1 code group
--- synchronization and 5.3.3.5 initial lane alignment). Bits are counted from the first one of the hunt.
+-- Where characters begin on a received 8b/10b lane, and where its alignment sequence starts
+-- (JESD204B.01 clauses 5.3.3.1 code group synchronization and 5.3.3.5 initial lane alignment). Bits
+-- are counted from the first one of the hunt.
 -- Code: a hunt for ten bit phases, and then one character a tick.
 use Rattle.std.specs.Prelude.{ℕ, zero, suc, ◌+◌, ◌-◌, ◌*◌, ◌/◌, ◌==◌, Bool, true, false, not, ◌&&◌, if◌then◌else◌, List, [], ◌∷◌, length, take, drop, get_or, Option, Some, None, option_and_then}
 use Rattle.std.specs.List.{flat_map}

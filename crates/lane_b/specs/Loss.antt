@@ -1,5 +1,6 @@
--- Faults of a received 8b/10b lane, and when it is lost (the counts are this project's own). Places are counted from the start: the
--- alignment sequence has the places below 4·P, and data begins at place 4·P.
+-- Faults of a received 8b/10b lane, and when it is lost (the counts are this project's own). Places
+-- count characters from the start: the alignment sequence has the places below 4·P, and data begins
+-- at place 4·P.
 -- Code: sixteen bits of history and a counter.
 use Rattle.std.specs.Prelude.{ℕ, suc, ◌-◌, ◌*◌, ◌==◌, nat_le, nat_lt, Bool, true, false, not, ◌&&◌, ◌||◌, if◌then◌else◌, List, [], ◌∷◌, count_by, take, Option, Some, None}
 use Rattle.link_params.specs.declared.fields.Params.{Params}

@@ -1,5 +1,6 @@
--- What an 8b/10b receiver lane reports and which entries its buffer is given, of all that it took since its hunt (JESD204B.01 clauses
--- 5.2 scrambling, 5.3.3.4 character replacement and 5.3.3.5 initial lane alignment; the marks are this project's own).
+-- What an 8b/10b receiver lane reports and which entries its buffer is given, of all that it took
+-- since its hunt (JESD204B.01 clauses 5.2 scrambling, 5.3.3.4 character replacement and 5.3.3.5
+-- initial lane alignment; the marks are this project's own).
 -- Code: one character a tick, with marks that travel in cells.
 use Rattle.std.specs.Prelude.{ℕ, zero, suc, ◌||◌, Bool, true, false, if◌then◌else◌, List, [], ◌∷◌, ◌++◌, map, length, take, drop, Option, Some, None}
 use Rattle.std.specs.List.{flat_map, slice_index_or}

@@ -1,4 +1,6 @@
--- What a receiver lane keeps, as contracts see it.
+-- What a receiver lane keeps, as contracts see it. Offsets are in ticks, places in bits of the
+-- hunt.
+-- Code: the fields themselves.
 use Rattle.std.specs.Prelude.{◌≡◌, ◌≤◌, ℕ, ◌+◌, ◌-◌, ◌*◌, ◌%◌, Bool, true, false, List, [], ◌∷◌, ◌++◌, length, drop, Option, Some, None}
 use Rattle.jesd_base.specs.Bits.{bits}
 use Rattle.link_params.specs.declared.fields.Params.{Params}

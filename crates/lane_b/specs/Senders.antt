@@ -1,4 +1,5 @@
--- What a transmitter lane keeps, as contracts see it.
+-- What a transmitter lane keeps, as contracts see it. A place counts octets of its multiframe.
+-- Code: the fields themselves.
 use Rattle.std.specs.Prelude.{◌≡◌, ℕ, suc, ◌*◌, ◌%◌, ◌<◌, Bool, true, false, List, [], ◌∷◌, length, Option, Some, None, IsSome}
 use Rattle.std.specs.List.{flat_map}
 use Rattle.jesd_base.specs.Bits.{bits}

@@ -1,4 +1,6 @@
--- What a receiver lane keeps of its readings since the start, as contracts see it.
+-- What a receiver lane keeps of its readings since the start, as contracts see it. Places count
+-- characters from the start.
+-- Code: the fields themselves.
 use Rattle.std.specs.Prelude.{◌≡◌, ◌<◌, ◌+◌, ◌*◌, ◌%◌, ◌==◌, nat_lt, if◌then◌else◌, ℕ, List, [], ◌∷◌, ◌++◌, Option, length, drop}
 use Rattle.link_params.specs.declared.fields.Params.{Params}
 use Rattle.link_params.specs.declared.ilas_state.IlasState.{IlasState}

@@ -1,4 +1,6 @@
--- What a receiver lane keeps, as contracts see it.
+-- What a receiver lane keeps, as contracts see it. Places count bits of the hunt; blocks and
+-- multiblocks are counted from the place.
+-- Code: the fields themselves.
 use Rattle.std.specs.Prelude.{◌≡◌, ◌⊎◌, ◌≤◌, ◌<◌, ℕ, suc, ◌+◌, ◌-◌, ◌*◌, ◌/◌, ◌%◌, ◌==◌, min, Bool, true, false, List, [], ◌∷◌, ◌++◌, map, length, take, drop, get_or, Option, Some, None}
 use Rattle.jesd_base.specs.Bits.{bits}
 use Rattle.link_params.specs.declared.fields.Mode.{Mode}

@@ -1,4 +1,6 @@
--- What a transmitter lane keeps, as contracts see it.
+-- What a transmitter lane keeps, as contracts see it. A place counts blocks of its extended
+-- multiblock.
+-- Code: the fields themselves.
 use Rattle.std.specs.Prelude.{◌≡◌, ◌<◌, ◌≤◌, ℕ, suc, ◌+◌, ◌*◌, ◌%◌, Bool, true, false, List, [], length, take, drop, Option, Some, None}
 use Rattle.std.specs.List.{flat_map}
 use Rattle.jesd_base.specs.Bits.{bits}

@@ -1,4 +1,5 @@
--- Laws of scrambling.
+-- Laws of scrambling, over lists of bits.
+-- Code: none of this is computed.
 use Rattle.std.specs.Prelude.{◌≡◌, ℕ, ◌<◌, ◌≤◌, Bool, List, ◌++◌, length, take, drop, reverse}
 use Rattle.lane_scramble.specs.Scrambling.{scrambled, descrambled}
 

@@ -1,5 +1,6 @@
--- What a scrambler stands for: a list of bits that it scrambled, or one that it descrambled.
--- A scrambler is seen as the earlier bits that it keeps, the latest first.
+-- What a scrambler stands for: a list of bits that it scrambled, or one that it descrambled. A
+-- scrambler is seen as the earlier bits that it keeps, the latest first.
+-- Code: the bits that are kept are one number.
 use Rattle.std.specs.Prelude.{◌≡◌, Bool, List, ◌++◌, take, reverse}
 use Rattle.lane_scramble.specs.Scrambling.{scrambled15, scrambled58, start15, start58}
 

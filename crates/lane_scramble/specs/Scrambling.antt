@@ -1,4 +1,5 @@
--- Self-synchronous scrambling by two taps, over whole lists of bits (JESD204B.01 clause 5.2, scrambling; JESD204C.1, 64b/66b link layer, scrambling).
+-- Self-synchronous scrambling by two taps, over whole lists of bits (JESD204B.01 clause 5.2,
+-- scrambling; JESD204C.1, 64b/66b link layer, scrambling).
 -- Code: whole octets or words on the last bits as a number.
 use Rattle.std.specs.Prelude.{ℕ, ◌-◌, Bool, false, List, [], ◌∷◌, ◌++◌, get_or}
 use Rattle.jesd_base.specs.Bits.{add, zeros, ones}

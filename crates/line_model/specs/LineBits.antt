@@ -1,5 +1,6 @@
--- The bits that come out of a lane's line, by all bits that were put in (this project's own model of a lane between the
--- devices: a delay, inverted bits, and ticks in which it is dead).
+-- The bits that come out of a lane's line, by all bits that were put in (this project's own model
+-- of a lane between the devices: a delay in bits, inverted bits by their numbers, and ticks in
+-- which it is dead).
 -- Code: a ring of words.
 use Rattle.std.specs.Prelude.{ℕ, zero, suc, ◌-◌, ◌==◌, nat_lt, Bool, false, ◌||◌, if◌then◌else◌, List, [], ◌∷◌, map, length, get_or}
 use Rattle.std.specs.List.{list_any}

@@ -1,4 +1,5 @@
--- What a line keeps of the bits that were put in.
+-- What a line keeps of the bits that were put in. `at` counts words, `next` flips and `first` bits.
+-- Code: the fields themselves.
 use Rattle.std.specs.Prelude.{◌≡◌, ℕ, ◌+◌, ◌-◌, ◌*◌, ◌/◌, ◌%◌, ◌^◌, ◌<◌, ◌≤◌, Bool, false, if◌then◌else◌, nat_lt, List, length, get_or, take}
 use Rattle.jesd_base.specs.Bits.{value}
 use Rattle.line_model.specs.LineBits.{Settings, is_flipped}

@@ -1,4 +1,5 @@
--- The configuration octets of a lane (JESD204B.01 clause 8.3, link configuration data): nineteen fields in fourteen octets.
+-- The configuration octets of a lane (JESD204B.01 clause 8.3, link configuration data): nineteen
+-- fields in fourteen octets.
 -- Code: each octet written out.
 use Rattle.std.specs.Prelude.{ℕ, ◌+◌, ◌-◌, ◌*◌, ◌/◌, ◌%◌, ◌^◌, ◌==◌, Bool, not, ◌||◌, if◌then◌else◌, List, [], ◌∷◌, map, take, sum, slice_index, bit_and, Option}
 use Rattle.jesd_base.specs.Search.{first_from}

@@ -1,4 +1,6 @@
--- The ends of a lane over whole lists, for both kinds of lane.
+-- The ends of a lane over whole lists, for both kinds of lane. An item of a list is a tick: one
+-- character of an 8b/10b lane, or one block of 66 bits of a 64b/66b lane.
+-- Code: one tick at a time.
 use Rattle.std.specs.Prelude.{ℕ, ◌&&◌, nat_le, Bool, List}
 use Rattle.link_params.specs.declared.fields.Params.{Params}
 use Rattle.link_params.specs.declared.fields.Timing.{Timing}

@@ -1,4 +1,5 @@
 -- A link as contracts see it.
+-- Code: the fields themselves.
 use Rattle.link_params.specs.declared.fields.Params.{Params}
 use Rattle.link_params.specs.declared.fields.Timing.{Timing}
 

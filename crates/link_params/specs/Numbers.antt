@@ -1,6 +1,6 @@
--- The numbers of a link, in ticks where nothing else is said. A tick is one character a lane with 8b/10b lanes, and one
--- block a lane with 64b/66b lanes.
--- (JESD204B.01 clause 6, deterministic latency; the window, the wait for a check and the bound are this project's own.)
+-- The numbers of a link, in ticks where nothing else is said. A tick is one character a lane with
+-- 8b/10b lanes, and one block a lane with 64b/66b lanes. (JESD204B.01 clause 6, deterministic
+-- latency; the window, the wait for a check and the bound are this project's own.)
 -- Code: the latency is found by arithmetic, and not as a least number.
 use Rattle.std.specs.Prelude.{ℕ, ◌+◌, ◌-◌, ◌*◌, ◌%◌, ◌==◌, Bool, if◌then◌else◌, unwrap_or}
 use Rattle.jesd_base.specs.Search.{first_from}

@@ -1,4 +1,6 @@
--- What the laws say of sizes.
+-- What the laws say of sizes: L counts lanes, M converters, F octets, S samples, N and N' bits, and
+-- the period ticks.
+-- Code: none of this is computed.
 use Rattle.std.specs.Prelude.{◌≡◌, ◌≤◌, ◌+◌, ◌*◌, ◌%◌, false, None}
 use Rattle.link_params.specs.declared.fields.Params.{Params}
 use Rattle.link_params.specs.Laws.{broken_law, due_octets}

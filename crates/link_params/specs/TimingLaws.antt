@@ -1,4 +1,5 @@
--- The laws of a link's timing, 13 to 17 (this project's own).
+-- The laws of a link's timing, 13 to 17 (this project's own). Skews and the tolerance are in
+-- sixteenths of a tick, all other times in ticks.
 -- Code: the first broken law is sought in order, with early returns.
 use Rattle.std.specs.Prelude.{ℕ, ◌+◌, ◌*◌, ◌%◌, ◌==◌, ◌&&◌, nat_le, nat_lt, Bool, List, [], ◌∷◌, Option}
 use Rattle.link_params.specs.declared.fields.Params.{Params}

@@ -1,4 +1,5 @@
--- The least place as a fact, and the hunt.
+-- The least place as a fact, and the hunt. Places count bits.
+-- Code: none of this is computed.
 use Rattle.std.specs.Prelude.{◌≡◌, ℕ, ◌+◌, ◌*◌, ◌%◌, ◌<◌, ◌≤◌, Bool, List, ◌++◌, length, drop, Some, None, IsSome}
 use Rattle.multiblock.specs.declared.place.Place.{Place as Found}
 use Rattle.multiblock.specs.Places.{pattern, span, Place, least_place, found}

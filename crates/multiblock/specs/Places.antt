@@ -1,6 +1,6 @@
--- The place of blocks and multiblocks in a list of bits (JESD204C.1, 64b/66b link layer, block and multiblock
--- synchronization; which places a receiver takes is this project's own rule).
--- Code: counters for each of 66 phases.
+-- The place of blocks and multiblocks in a list of bits (JESD204C.1, 64b/66b link layer, block and
+-- multiblock synchronization; which places a receiver takes is this project's own rule).
+-- Code: a ring of the headers of all 66 phases, and sets of phases as bits of a number.
 use Rattle.std.specs.Prelude.{ℕ, zero, suc, ◌+◌, ◌-◌, ◌*◌, ◌%◌, ◌==◌, max, Bool, true, false, not, ◌&&◌, List, [], ◌∷◌, length, take, drop, get_or, Option, Some, None, option_map}
 use Rattle.jesd_base.specs.Bits.{add}
 use Rattle.jesd_base.specs.Search.{first_from}

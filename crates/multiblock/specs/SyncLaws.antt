@@ -1,4 +1,5 @@
--- Reading a sync word.
+-- A law of sync words: what was put in is read.
+-- Code: none of this is computed.
 use Rattle.std.specs.Prelude.{◌≡◌, ℕ, ◌^◌, ◌<◌, Bool, true}
 use Rattle.link_params.specs.declared.fields.Mode.TheVariants.{CCrc, CFec}
 use Rattle.multiblock.specs.SyncWords.{sync_word, read_sync}

@@ -1,5 +1,5 @@
--- Sync words: the 32 sync bits of a multiblock, sync bit 0 first (JESD204C.1, 64b/66b link layer, sync word;
--- both layouts are this project's own).
+-- Sync words: the 32 sync bits of a multiblock, sync bit 0 first (JESD204C.1, 64b/66b link layer,
+-- sync word; both layouts are this project's own).
 -- Code: shifts of a u32, whose bit 31 is sync bit 0.
 use Rattle.std.specs.Prelude.{ℕ, ◌==◌, Bool, true, false, not, ◌&&◌, List, [], ◌∷◌, map, drop, if◌then◌else◌}
 use Rattle.std.specs.Int.{bit_at}

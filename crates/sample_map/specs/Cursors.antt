@@ -1,4 +1,6 @@
--- What a cursor holds.
+-- What a cursor holds that makes the octets of a group from its words: its place counts octets, and
+-- `have` bits.
+-- Code: the fields themselves.
 use Rattle.std.specs.Prelude.{◌≡◌, ℕ, ◌+◌, ◌-◌, ◌*◌, ◌^◌, ◌<◌, ◌≤◌, List}
 use Rattle.std.specs.Int.{bit_at}
 use Rattle.sample_map.specs.Groups.{Grouping, group_bit}

@@ -1,5 +1,7 @@
--- The frame of some words, and the words of a frame, as functions, for definitions that compute (JESD204B.01 clause 5.1, transport
--- layer): the one list of octets with `IsFrame`, and the one list of words with `AreWords`.
+-- The frame of some words, and the words of a frame, as functions, for definitions that compute
+-- (JESD204B.01 clause 5.1, transport layer): the one list of octets with `IsFrame`, and the one
+-- list of words with `AreWords`.
+-- Code: an octet or a word at a time, from the words or octets that it spans.
 use Rattle.std.specs.Prelude.{◌≡◌, ℕ, ◌+◌, ◌*◌, ◌/◌, ◌%◌, ◌==◌, nat_lt, if◌then◌else◌, List, map, length, slice_index, None}
 use Rattle.std.specs.List.{range_with_len}
 use Rattle.jesd_base.specs.Bits.{value}

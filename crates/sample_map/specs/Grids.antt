@@ -1,4 +1,5 @@
--- The sizes of a grid.
+-- The sizes of a grid, in words, octets and bits.
+-- Code: the fields themselves.
 use Rattle.sample_map.specs.Groups.{Grouping}
 use Rattle.sample_map.specs.declared.grid.Grid.{Grid}
 

@@ -1,4 +1,6 @@
--- Words in octets, group by group: a group is a lane, or the whole frame with HD. How the code goes about the layout.
+-- Words in octets, group by group (JESD204B.01 clause 5.1, transport layer): a group is a lane, or
+-- the whole frame with HD.
+-- Code: so, with the bits in hand as one number.
 use Rattle.std.specs.Prelude.{◌≡◌, ℕ, ◌+◌, ◌-◌, ◌*◌, ◌/◌, ◌%◌, ◌<◌, nat_lt, if◌then◌else◌, List, slice_index}
 use Rattle.std.specs.Int.{bit_at}
 use Rattle.link_params.specs.declared.fields.Params.{Params}

@@ -1,4 +1,5 @@
--- What the reader keeps after some records, and what it answers.
+-- What the reader keeps after some records, and what it answers (this project's own format).
+-- Code: one record at a time.
 use Rattle.std.specs.Prelude.{◌≡◌, Option, Some, None, Result, Ok, Err}
 use Rattle.link_params.specs.declared.fields.Params.{Params}
 use Rattle.scenario.specs.declared.fault.Fault.{Fault}

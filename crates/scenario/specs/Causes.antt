@@ -1,4 +1,5 @@
 -- The numbers of the causes (this project's own format).
+-- Code: an enum, and its numbers at the line alone.
 use Rattle.std.specs.Prelude.{ℕ}
 use Rattle.scenario.specs.declared.cause.Cause.{Cause}
 use Rattle.scenario.specs.declared.cause.Cause.TheVariants as cause

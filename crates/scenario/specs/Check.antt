@@ -1,4 +1,5 @@
--- The checks of one record: the first that fails counts.
+-- The checks of one record: the first that fails counts (this project's own format).
+-- Code: early returns.
 use Rattle.std.specs.Prelude.{◌≡◌, ℕ, ◌+◌, ◌==◌, Bool, List, [], ◌∷◌, Option, Some, None, Result, Ok, Err, if◌then◌else◌, option_map}
 use Rattle.scenario.specs.declared.cause.Cause.{Cause}
 use Rattle.scenario.specs.declared.cause.Cause.TheVariants as cause

@@ -1,4 +1,5 @@
 -- What a scenario gives a link.
+-- Code: the fields themselves.
 use Rattle.std.specs.Prelude.{ℕ, List, []}
 use Rattle.scenario.specs.declared.input.Input.{Input}
 use Rattle.scenario.specs.declared.input.Input.TheVariants.{Ramp, Frames}

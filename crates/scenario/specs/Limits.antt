@@ -1,4 +1,6 @@
--- What the values of a scenario obey.
+-- What the values of a scenario obey (this project's own limits). Ticks and edges are counted from
+-- 0, delays and flips are in bits, and jitter is in sixteenths of a tick.
+-- Code: early returns, record by record.
 use Rattle.std.specs.Prelude.{ℕ, ◌+◌, ◌-◌, ◌*◌, nat_le, nat_lt, ◌&&◌, Bool, true, false, length, pos, neg_ℤ, int_le}
 use Rattle.link_params.specs.declared.fields.Params.{Params}
 use Rattle.link_params.specs.Numbers.{period, width}

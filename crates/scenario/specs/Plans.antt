@@ -1,4 +1,5 @@
--- What a run is made of, and the frames that go into it.
+-- What a run is made of, and the frames that go into it (this project's own).
+-- Code: one frame at a time; events are sorted once.
 use Rattle.std.specs.Prelude.{ℕ, zero, suc, ◌+◌, ◌*◌, ◌/◌, ◌%◌, ◌==◌, List, [], ◌∷◌, length, map, Option, Some, None, filter, slice_index}
 use Rattle.std.specs.List.{flat_map}
 use Rattle.link_params.specs.declared.fields.Params.{Params}

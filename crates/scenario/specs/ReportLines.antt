@@ -1,4 +1,5 @@
 -- The lines of a report (this project's own format).
+-- Code: each line is written into a buffer.
 use Rattle.std.specs.Prelude.{ℕ, List, [], ◌∷◌, ◌++◌, codes, decimal}
 use Rattle.std.specs.List.{flat_map}
 use Rattle.link_params.specs.declared.fields.Params.{Params}

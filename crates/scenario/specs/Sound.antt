@@ -1,4 +1,5 @@
--- What the values that were read obey.
+-- What the values that were read obey (this project's own limits).
+-- Code: none of this is computed.
 use Rattle.std.specs.Prelude.{◌≡◌, ◌≤◌, ◌<◌, ℕ, ◌+◌, ◌*◌, ◌/◌, ◌%◌, List, [], length, Option, Some, None, IsTrue}
 use Rattle.std.specs.List.{All}
 use Rattle.link_params.specs.declared.fields.Params.{Params}

@@ -1,4 +1,5 @@
--- The written forms of fields.
+-- The written forms of fields, as bytes.
+-- Code: slices, and `to_digit`.
 use Rattle.std.specs.Prelude.{ℕ, ◌==◌, ◌&&◌, ◌||◌, nat_le, Bool, List, [], ◌∷◌, length, Option, Some, None, if◌then◌else◌, ◌+◌, ◌*◌, ℤ, pos, neg_ℤ, option_map}
 use Rattle.std.specs.Char.{is_digit, digit_value}
 use Rattle.std.specs.List.{list_all}

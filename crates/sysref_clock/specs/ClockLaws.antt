@@ -1,4 +1,6 @@
--- Laws of captured edges and of phases.
+-- Laws of captured edges and of phases. Skew and jitter are in sixteenths of a tick, all else in
+-- ticks.
+-- Code: none of this is computed.
 use Rattle.std.specs.Prelude.{◌≡◌, ℕ, ◌+◌, ◌-◌, ◌*◌, ◌%◌, ◌<◌, ◌≤◌, Bool, true, false, List, [], ◌∷◌, ◌++◌, length, get_or, Some, None, ℤ, pos, ◌≤ℤ◌}
 use Rattle.sysref_clock.specs.Clocks.{place_of_edge, captured, phase_after}
 

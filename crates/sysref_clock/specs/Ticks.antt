@@ -1,4 +1,5 @@
--- What a clock keeps of the ticks that it took.
+-- What a clock keeps of the ticks that it took; its period and its phase are in ticks.
+-- Code: the fields themselves.
 use Rattle.std.specs.Prelude.{◌≡◌, ℕ, Bool, List, Option}
 use Rattle.sysref_clock.specs.Clocks.{phase_after}
 
