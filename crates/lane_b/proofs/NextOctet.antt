@@ -3,6 +3,7 @@ use Rattle.std.proofs.Common.{◌≡◌, ℕ, suc, ◌%◌, ◌<◌, Bool, true,
 use Rattle.std.specs.List.{flat_map}
 use Rattle.jesd_base.specs.Bits.{bits}
 use Rattle.lane_scramble.specs.Scramblers.{HasScrambled15}
+use Rattle.std.proofs.Math.Nat.{mod-lt}
 use Rattle.std.proofs.Math.Seq.{get_or-append_seam}
 use Rattle.std.proofs.lemmas.Option.{get_or_from_slice_get}
 use Rattle.link_params.specs.declared.fields.Params.{Params}
@@ -33,6 +34,15 @@ is_placed-more old new p (Some n) x y c h e takes =
       replaced_so = takes p h.octets h.chars h.replaced_so at;
       place = place-more p h.octets y x at;
     }
+
+-- the next place is one of a multiframe
+pub place-low : (replace : Replacer) (p : Params) (next : Option ℕ) (x size : ℕ)
+    → HasPlace p replace next → next ≡ Some x → 0 < size → size ≡ period p → x < size
+place-low replace p None x size h e some is = cc
+place-low replace p (Some n) x size h e some is =
+    let same : n ≡ x = cc in
+    let at : length h.octets % size ≡ x = ap (λ d. length h.octets % d) is ∙ sym h.place ∙ same in
+    subst (λ k. k < size) at (mod-lt (length h.octets) some)
 
 pub taken-spelled : (old new : Replacer) (p : Params) (next : Option ℕ) (x y : ℕ) (c : Char) → HasPlace p old next → next ≡ Some x → Takes old new x y c → y < 256
     → HasSpellings c

@@ -11,7 +11,7 @@ use char_replace::Replace;
 use code_8b10b::{Char, K28_5, Rd, encode};
 use ilas::ilas_char;
 use lane_scramble::Scr15;
-use link_params::{Link, TxOrder};
+use link_params::{Link, TxOrder, place_after};
 use std::marker::Model;
 
 /// A transmitter lane: ten bits a tick.
@@ -170,13 +170,4 @@ impl TxLaneB {
             octet
         }
     }
-}
-
-// The place that follows this one.
-fn place_after(place: u32, period: u32) -> u32
-    requires place { place < period }
-    requires high { period ≤ 1024 }
-    ensures { result ≡ suc place % period }
-{
-    if place + 1 == period { 0 } else { place + 1 }
 }

@@ -62,13 +62,9 @@ is-crc CCrc b f = refl
 
 -- the received word
 pub word-of : (old : List ℕ) (c : List Bool) (n : ℕ) → length c ≡ 26 → n ≡ value c
-    → received old (bit_and n 67108863) ≡ payload_bits old ++ c
+    → received old n ≡ payload_bits old ++ c
 word-of old c n size v =
-    let P : ℕ → Type 0 = λ k. value c < 2 ^ k in
-    let small : value c < 2 ^ 26 = subst P size (value_below c) in
-    let low : bit_and n 67108863 ≡ value c = and_mask n 26 ∙ ap (λ x. x % 2 ^ 26) v
-    ∙ mod-eq_of_lt small in
-    ap (λ x. payload_bits old ++ bits 26 x) low ∙ ap (λ k. payload_bits old ++ bits k (value c))
+    ap (λ x. payload_bits old ++ bits 26 x) v ∙ ap (λ k. payload_bits old ++ bits k (value c))
     (sym size) ∙ ap (λ x. payload_bits old ++ x) (bits_of_value c)
 
 abbrev pub mark-of : Fix → Mark
@@ -97,7 +93,7 @@ fec-whole : (payload c : List Bool) → all_zero (rem fire (payload ++ c)) ≡ t
 fec-whole payload c hz = fec-by payload c true (burst (payload ++ c)) hz refl
 
 pub fec-checked : (m : Mode) (old new : List ℕ) (c : List Bool) (n : ℕ) (f : Fix) → m ≡ CFec
-    → length old ≡ 32 → length c ≡ 26 → n ≡ value c → Corrects old (bit_and n 67108863) new f
+    → length old ≡ 32 → length c ≡ 26 → n ≡ value c → Corrects old n new f
     → checked m (payload_bits old) c ≡ record { mark = mark-of f; payload = payload_bits new }
 fec-checked m old new c n Whole is long size v h =
     let w = word-of old c n size v in

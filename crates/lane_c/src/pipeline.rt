@@ -1,5 +1,5 @@
 //! The blocks that wait for their check.
-ghost use Rattle.std.specs.Prelude.{◌≡◌, ◌≢◌, ◌<◌, ◌+◌, ◌++◌, ◌∷◌, [], ◌==◌, ◌&&◌, ◌*◌, ◌-◌, ◌/◌, ◌%◌, ◌≤◌, if◌then◌else◌, not, Some, None, ℕ, Bool, List, drop, get_or, length, map};
+ghost use Rattle.std.specs.Prelude.{◌≡◌, ◌≢◌, ◌<◌, ◌^◌, ◌+◌, ◌++◌, ◌∷◌, [], ◌==◌, ◌&&◌, ◌*◌, ◌-◌, ◌/◌, ◌%◌, ◌≤◌, if◌then◌else◌, not, Some, None, ℕ, Bool, List, drop, get_or, length, map};
 ghost use Rattle.jesd_base.specs.Bits.{bits, value};
 ghost use Rattle.link_params.specs.declared.fields.Mode.TheVariants.{B};
 ghost use Rattle.block_66b.specs.Blocks.{header};
@@ -258,7 +258,8 @@ fn carriers(mode: Mode) -> u32
 
 // What a check says of a payload, which is corrected.
 fn checked(mode: Mode, payload: &mut [u64; 32], check: u32) -> Mark
-    requires { mode ≢ B }
+    requires mode { mode ≢ B }
+    requires check { check < 2 ^ 26 }
     ensures { (c : List Bool) → length c ≡ check_size mode → check ≡ value c
         → checked mode (payload_bits payload.old) c ≡ record {
           mark = result;
@@ -267,7 +268,7 @@ fn checked(mode: Mode, payload: &mut [u64; 32], check: u32) -> Mark
         } }
 {
     match mode {
-        Mode::CFec => match correct_uncounted(payload, check & 0x3FF_FFFF) {
+        Mode::CFec => match correct_uncounted(payload, check) {
             Fix::Whole => Mark::Ok,
             Fix::Fixed { .. } => Mark::Fixed,
             Fix::Uncorrectable => Mark::Bad,

@@ -15,11 +15,10 @@ ghost use Rattle.lane_c.specs.Locking.{bits_taken};
 
 use crate::loss::Loss;
 use crate::pipeline::Pipeline;
-use crate::sender::place_after;
 use block_66b::{BitWindow, SyncBit, unpack};
 use elastic_buffer::ElasticBuffer;
 use jesd_base::NoMemory;
-use link_params::{IlasState, LaneCell, LaneReport, Link, Mode, RxOrder};
+use link_params::{IlasState, LaneCell, LaneReport, Link, Mode, RxOrder, place_after};
 use multiblock::{Place, PlaceHunt};
 use std::alloc::Global;
 use std::marker::Model;

@@ -13,7 +13,7 @@ use block_66b::pack;
 use crc12::Crc12;
 use fire_fec::parity;
 use lane_scramble::Scr58;
-use link_params::{Link, Mode, TxOrder};
+use link_params::{Link, Mode, TxOrder, place_after};
 use multiblock::sync_word;
 use std::marker::Model;
 
@@ -156,15 +156,6 @@ impl TxLaneC {
         self.next = Some(place_after(place, period));
         pack(sync_bit(self.word, at), scrambled)
     }
-}
-
-// The place that follows this one.
-pub(crate) fn place_after(place: u32, period: u32) -> u32
-    requires low { 1 ≤ period }
-    requires high { period ≤ 1024 }
-    ensures { place < period → result ≡ suc place % period }
-{
-    if place < period - 1 { place + 1 } else { 0 }
 }
 
 // Sync bit `at` of a sync word.

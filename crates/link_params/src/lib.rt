@@ -19,6 +19,7 @@ mod law;
 mod link;
 mod numbers;
 mod orders;
+mod place;
 mod shape;
 #[cfg(test)]
 mod tests;
@@ -35,4 +36,5 @@ pub use law::Law;
 pub use link::Link;
 pub use numbers::sizes;
 pub use orders::{RxOrder, TxOrder};
+pub use place::place_after;
 pub use shape::Shape;

@@ -1,5 +1,5 @@
 //! What a receiver reads in a sync word.
-ghost use Rattle.std.specs.Prelude.{◌≡◌, ◌≢◌, Bool, true, List, [], ◌∷◌, drop};
+ghost use Rattle.std.specs.Prelude.{◌≡◌, ◌≢◌, ◌<◌, ◌^◌, Bool, true, List, [], ◌∷◌, drop};
 ghost use Rattle.jesd_base.specs.Bits.{bits, value};
 ghost use Rattle.multiblock.specs.SyncWords.{sync_form, carriers, is_check, is_cmd, is_end, same_bits, pilot, read_sync};
 
@@ -23,7 +23,8 @@ pub struct SyncRead {
 /// What a sync word carries; bit 31 is sync bit 0. The bits that are always 1 are not looked at.
 pub fn read_sync(mode: Mode, word: u32) -> SyncRead
     requires { mode ≢ Mode.B }
-    ensures { result ≡ read_sync mode (bits 32 word) }
+    ensures read { result ≡ read_sync mode (bits 32 word) }
+    ensures below { result.check < 2 ^ 26 }
 {
     let end = has_end(word);
     let pilot = has_pilot(word);
@@ -44,7 +45,8 @@ pub fn read_sync(mode: Mode, word: u32) -> SyncRead
 }
 
 fn crc_check(word: u32) -> u32
-    ensures { result ≡ value (carriers is_check (sync_form Mode.CCrc) (bits 32 word)) }
+    ensures check { result ≡ value (carriers is_check (sync_form Mode.CCrc) (bits 32 word)) }
+    ensures below { result < 2 ^ 12 }
 {
     bits_and_numbers();
     let high = append(word >> 29, 3, word >> 25);
@@ -61,7 +63,8 @@ fn crc_cmd(word: u32) -> u8
 }
 
 fn fec_check(word: u32) -> u32
-    ensures { result ≡ value (carriers is_check (sync_form Mode.CFec) (bits 32 word)) }
+    ensures check { result ≡ value (carriers is_check (sync_form Mode.CFec) (bits 32 word)) }
+    ensures below { result < 2 ^ 26 }
 {
     bits_and_numbers();
     append(word >> 10, 4, word >> 5) & 0x3ff_ffff

@@ -25,12 +25,12 @@ returns-in-Uncorrectable c = λ cs size v.
 
 pub returns-then-crc-check : goal.returns-then-crc-check
 returns-then-crc-check c = λ cs size v.
-    let is : c.args.mode ≡ CCrc = is-crc c.args.mode c.requires c.in_default.not-CFec in
+    let is : c.args.mode ≡ CCrc = is-crc c.args.mode c.requires.mode c.in_default.not-CFec in
     crc-ok c.args.mode (payload_bits c.args.payload.now) cs c.args.check is
     (size ∙ ap check_size is) v (sym c.crc.ensures.check ∙ c.if-crc-check.true)
 
 pub returns-else-crc-check : goal.returns-else-crc-check
 returns-else-crc-check c = λ cs size v.
-    let is : c.args.mode ≡ CCrc = is-crc c.args.mode c.requires c.in_default.not-CFec in
+    let is : c.args.mode ≡ CCrc = is-crc c.args.mode c.requires.mode c.in_default.not-CFec in
     crc-bad c.args.mode (payload_bits c.args.payload.now) cs c.args.check is v
     (λ e. c.if-crc-check.false (c.crc.ensures.check ∙ e))

@@ -1,4 +1,4 @@
-use Rattle.std.proofs.Common.{◌≡◌, ℕ, suc, ◌%◌, ◌≤◌, List, ◌∷◌, [], ◌++◌, length, Bool, Some, None, sym, ◌∙◌, ap, subst}
+use Rattle.std.proofs.Common.{◌≡◌, ℕ, suc, ◌%◌, ◌≤◌, ◌<◌, List, ◌∷◌, [], ◌++◌, length, Bool, Some, None, sym, ◌∙◌, ap, subst, arith}
 use Rattle.std.specs.List.{flat_map}
 use Rattle.jesd_base.specs.Bits.{bits}
 use Rattle.link_params.specs.declared.fields.Params.{Params}
@@ -10,7 +10,7 @@ use Rattle.char_replace.specs.Kept.{HasReplaced, Sender as Replacer}
 use Rattle.lane_b.specs.Senders.{Sender, GoesOn, Carries}
 use Rattle.lane_b.specs.Sent.{coded_octets, replaced}
 use Rattle.lane_b.proofs.CodedOctets.{length-coded, data_char-more, carries-more, place-more}
-use Rattle.lane_b.proofs.NextOctet.{is_placed-more, taken-spelled}
+use Rattle.lane_b.proofs.NextOctet.{is_placed-more, place-low, taken-spelled}
 use Rattle.lane_b.proofs.sender.TxLaneB.go_on.Goals as goal
 
 link : (c : goal.After-push) → c.self-2.inside.link.params ≡ c.args.self.now.params
@@ -22,7 +22,13 @@ next_is c = ap (λ (s : Sender). s.next) (c.self-2.view_is ∙ c.coded-coded.ens
 place_is : (c : goal.After-push) → c.place_after-next.result ≡ suc c.args.place % period c.args.self.now.params
 place_is c =
     let same : c.shape.result ≡ c.args.self.now.params = c.shape.ensures.same ∙ ap (λ (s : Sender). s.params) c.self.view_is in
-    c.place_after-next.ensures ∙ ap (λ (n : ℕ). suc c.args.place % n) (c.period.ensures.value ∙ ap period same)
+    let next : c.self.inside.next ≡ Some c.args.place =
+        ap (λ (s : Sender). s.next) c.self.view_is ∙ c.requires in
+    let size : c.period.result ≡ period c.self.inside.link.params =
+        c.period.ensures.value ∙ ap period c.shape.ensures.same in
+    let low : c.args.place < c.period.result = place-low _ _ _ _ _ c.self.invariant.2 next
+        (omega (arith, c.period.ensures.low)) size in
+    c.place_after-next.ensures low ∙ ap (λ (n : ℕ). suc c.args.place % n) (c.period.ensures.value ∙ ap period same)
 
 some_octets : (c : goal.After-push) → 1 ≤ c.args.self.now.params.f
 some_octets c =
