@@ -6,6 +6,8 @@ pub mod Depth
 pub mod EdgeTicks
 pub mod EntryCells
 pub mod FactsB
+pub mod FactsC
+pub mod FactsOf
 pub mod FrameCells
 pub mod KindFacts
 pub mod LaneDepth
@@ -13,6 +15,7 @@ pub mod LaneHistory
 pub mod NextMoment
 pub mod NumberLists
 pub mod OrderLemmas
+pub mod PlacesC
 pub mod RowHistory
 pub mod RunTicks
 pub mod RxHistory
