@@ -1,14 +1,14 @@
 -- The cells among the entries of a session: none for the places of the alignment sequence, then
 -- data.
-use Rattle.std.proofs.Common.{◌≡◌, ℕ, zero, suc, ◌+◌, ◌-◌, ◌<◌, ◌≤◌, ◌⊎◌, List, [], ◌∷◌, ◌++◌, map, replicate, length, take, get_or, Some, None, inl, inr, refl, sym, ap, ap₂, ◌∙◌, length-append, arith}
+use Rattle.std.proofs.Common.{◌≡◌, ℕ, zero, suc, ◌+◌, ◌-◌, ◌*◌, ◌<◌, ◌≤◌, ◌⊎◌, if◌then◌else◌, List, [], ◌∷◌, ◌++◌, map, replicate, length, take, get_or, Some, None, inl, inr, refl, sym, ap, ap₂, ◌∙◌, length-append, arith}
 use Rattle.std.proofs.Math.Seq.{take-nil}
 use Rattle.std.proofs.lemmas.List.{length-map, length-replicate}
 use Rattle.link_params.specs.declared.fields.Params.{Params}
 use Rattle.link_params.specs.declared.cells.LaneCell.{LaneCell}
 use Rattle.link_params.specs.Lanes.{Entry, Placed, Held}
+use Rattle.link_params.specs.Laws.{is_b}
+use Rattle.link_params.specs.Numbers.{period}
 use Rattle.lane_b.specs.Gives.{given}
-use Rattle.lane_b.specs.Loss.{ilas_length}
-use Rattle.lane_b.proofs.LaneEntries.{AreEntries}
 use Rattle.link_model.specs.Before.{no_cell}
 use Rattle.link_model.specs.Gives.{cells_in}
 
@@ -66,19 +66,21 @@ given-no-data zero n = refl
 given-no-data (suc k) zero = refl
 given-no-data (suc k) (suc n) = given-no-data k n
 
--- what the entries of a lane hold
-pub record HasCells (p : Params) (entries : List Entry) : Type 0 where
-  pub cells : (n : ℕ) → cells_in (take n entries) ≡ take (n - ilas_length p) (cells_in entries)
-  pub many : length entries ≤ ilas_length p + length (cells_in entries)
-  pub none : (n : ℕ) → n < ilas_length p → given (get_or entries n Placed) ≡ None
-  pub some : (n : ℕ) → ilas_length p ≤ n → n < length entries
-      → given (get_or entries n Placed)
-      ≡ Some (get_or (cells_in entries) (n - ilas_length p) no_cell)
+-- the entries of the alignment sequence, before the first data
+abbrev pub lead : Params → ℕ
+lead p = if is_b p.mode then 4 * period p else 0
 
-cells-of-shape : (p : Params) (k : ℕ) (cs : List LaneCell) → k ≤ ilas_length p
-    → (cs ≡ []) ⊎ (k ≡ ilas_length p) → HasCells p (shape k cs)
-cells-of-shape p k cs few whole =
-    let m : ℕ = ilas_length p in
+-- what entries hold, of which up to m belong to the alignment sequence
+pub record HasCells (m : ℕ) (entries : List Entry) : Type 0 where
+  pub cells : (n : ℕ) → cells_in (take n entries) ≡ take (n - m) (cells_in entries)
+  pub many : length entries ≤ m + length (cells_in entries)
+  pub none : (n : ℕ) → n < m → given (get_or entries n Placed) ≡ None
+  pub some : (n : ℕ) → m ≤ n → n < length entries
+      → given (get_or entries n Placed) ≡ Some (get_or (cells_in entries) (n - m) no_cell)
+
+cells-of-shape : (m k : ℕ) (cs : List LaneCell) → k ≤ m → (cs ≡ []) ⊎ (k ≡ m)
+    → HasCells m (shape k cs)
+cells-of-shape m k cs few whole =
     let all = cells-all k cs in
     let held = ap length all in
     let long = length-append (replicate k Placed) (map Held cs) in
@@ -106,6 +108,8 @@ cells-of-shape p k cs few whole =
       }
     ]
 
-pub cells-of-entries : (p : Params) (entries : List Entry) → AreEntries p entries
-    → HasCells p entries
-cells-of-entries p entries a = rw a.are (cells-of-shape p a.placed a.cells a.few a.whole)
+-- entries that are places of the alignment sequence, and behind the last of them data
+pub cells-of-entries : (m : ℕ) (entries : List Entry) (k : ℕ) (cs : List LaneCell)
+    → entries ≡ replicate k Placed ++ map Held cs → k ≤ m → (cs ≡ []) ⊎ (k ≡ m)
+    → HasCells m entries
+cells-of-entries m entries k cs are few whole = rw are (cells-of-shape m k cs few whole)

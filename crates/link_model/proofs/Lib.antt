@@ -9,6 +9,7 @@ pub mod LaneDepth
 pub mod LaneHistory
 pub mod NextMoment
 pub mod NumberLists
+pub mod OctetColumns
 pub mod OrderLemmas
 pub mod RowHistory
 pub mod RxHistory
