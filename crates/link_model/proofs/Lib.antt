@@ -16,3 +16,4 @@ pub mod RxHistory
 pub mod TxHistory
 pub mod WindowFacts
 pub mod RunTicks
+pub mod WholeFrames
