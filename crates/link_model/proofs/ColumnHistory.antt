@@ -1,6 +1,6 @@
 -- What the lanes give in a tick in which they run, and the columns of octets of a session with a
 -- tick more.
-use Rattle.std.proofs.Common.{◌≡◌, ℕ, suc, ◌+◌, ◌-◌, ◌*◌, ◌<◌, ◌≤◌, ◌&&◌, nat_le, Bool, true, if◌then◌else◌, List, [], ◌∷◌, ◌++◌, map, length, take, get_or, Some, None, inl, inr, refl, sym, ap, ap₂, ◌∙◌, append-nil, arith}
+use Rattle.std.proofs.Common.{◌≡◌, ℕ, ◌+◌, ◌-◌, ◌*◌, ◌<◌, ◌≤◌, ◌&&◌, nat_le, Bool, true, if◌then◌else◌, List, [], ◌++◌, map, length, take, get_or, Some, None, inl, inr, refl, sym, ap, ap₂, ◌∙◌, append-nil, arith}
 use Rattle.std.proofs.Math.Nat.{mul-le-mul_left}
 use Rattle.std.proofs.lemmas.Bool.{cases_Bool, cases_lt, cond-true, cond-false, le-leb, lt-leb}
 use Rattle.std.proofs.lemmas.List.{take-append-le}
@@ -13,11 +13,11 @@ use Rattle.bring_up.specs.Decisions.{is_running}
 use Rattle.lane_b.specs.Gives.{given}
 use Rattle.scenario.specs.Plans.{Plan, numbers_from}
 use Rattle.link_model.proofs.EntryCells.{HasCells, lead}
-use Rattle.link_model.proofs.LaneHistory.{HasHunt, current-session, gave-next, session-goes-on, session-hunt, took-stepped}
+use Rattle.link_model.proofs.LaneHistory.{HasHunt, gave-next, session-goes-on, session-hunt, took-stepped}
 use Rattle.link_model.proofs.NextMoment.{lanes_of, next, took, with_next}
 use Rattle.link_model.proofs.NumberLists.{map-numbers}
 use Rattle.link_model.proofs.OctetColumns.{grid, grid-is, grid-next, length-grid, length-octets, octets-given-are, octets_of}
-use Rattle.link_model.specs.Before.{Columns, columns_now, current, no_cell, octet_columns, octets_now}
+use Rattle.link_model.specs.Before.{Columns, columns_now, current, no_cell, octet_columns}
 use Rattle.link_model.specs.Gives.{cells_in, gives_in, octets_given}
 use Rattle.link_model.specs.Hunts.{from_hunt, session}
 use Rattle.link_model.specs.LaneRuns.{given_by, lane_stepped}

@@ -1,5 +1,5 @@
 -- The frames that leave in a tick, by the columns of the session.
-use Rattle.std.proofs.Common.{◌≡◌, ℕ, suc, ◌+◌, ◌-◌, ◌*◌, ◌/◌, ◌<◌, ◌≤◌, Bool, true, false, if◌then◌else◌, List, [], ◌∷◌, map, length, take, get_or, Option, Some, None, inl, inr, refl, sym, ap, ap₂, ◌∙◌, length-take, unwrap_or, arith}
+use Rattle.std.proofs.Common.{◌≡◌, ℕ, ◌+◌, ◌-◌, ◌*◌, ◌/◌, ◌<◌, ◌≤◌, Bool, true, false, if◌then◌else◌, List, [], ◌∷◌, map, length, take, get_or, Option, Some, None, inl, inr, refl, sym, ap, ap₂, ◌∙◌, length-take, unwrap_or, arith}
 use Rattle.std.proofs.Math.Nat.{mul-le-mul_left}
 use Rattle.std.proofs.lemmas.Bool.{cases_Bool, cases_lt, cond-true, cond-false}
 use Rattle.std.proofs.lemmas.List.{get_or-map}
@@ -8,8 +8,8 @@ use Rattle.std.proofs.lemmas.Simd.{map-map}
 use Rattle.link_params.specs.declared.fields.Params.{Params}
 use Rattle.link_params.specs.declared.cells.LaneCell.{LaneCell}
 use Rattle.link_params.specs.Laws.{is_b}
-use Rattle.link_params.specs.Lanes.{Entry, LaneKind}
-use Rattle.link_params.specs.Numbers.{octets_per_tick, period}
+use Rattle.link_params.specs.Lanes.{LaneKind}
+use Rattle.link_params.specs.Numbers.{octets_per_tick}
 use Rattle.sample_map.specs.Frames.{words_of}
 use Rattle.bring_up.specs.Decisions.{is_running}
 use Rattle.scenario.specs.Plans.{Plan, numbers_from}
@@ -19,8 +19,8 @@ use Rattle.link_model.proofs.FrameCells.{frame-cells-grid}
 use Rattle.link_model.proofs.LaneHistory.{HasHunt, session-goes-on, session-hunt}
 use Rattle.link_model.proofs.NextMoment.{delivered-next, lanes_of, next, with_next}
 use Rattle.link_model.proofs.NumberLists.{get_or-numbers, length-numbers, map-numbers}
-use Rattle.link_model.proofs.OctetColumns.{grid, length-octets, octets-given-are, octets_of}
-use Rattle.link_model.proofs.WholeFrames.{frame_at, whole-part}
+use Rattle.link_model.proofs.OctetColumns.{grid, length-octets, octets-given-are}
+use Rattle.link_model.proofs.WholeFrames.{div-le, frame_at, whole-part}
 use Rattle.link_model.specs.Before.{Columns, cells_of, columns_now, current, delivered_at, mark_of, values_of}
 use Rattle.link_model.specs.Gives.{frame_cells, frame_given, frames_given, frames_in, gives_in, octets_given}
 use Rattle.link_model.specs.Hunts.{from_hunt, or_else, session}
@@ -210,6 +210,9 @@ module _ (k : LaneKind) (s : Plan) (h : History) (some : 0 < s.link.params.l)
         let end : ℕ = octets_per_tick p * (length h + 1) in
         let a : ℕ = columns_after s g / p.f in
         let b : ℕ = columns_after s (g + 1) / p.f in
+        let cells : g - lead p ≤ g + 1 - lead p = omega arith in
+        let up : a ≤ b = div-le (columns_after s g) (columns_after s (g + 1)) p.f octets_some
+        (mul-le-mul_left (octets_per_tick p) cells) in
         let given : ℕ → Delivered =
         frame_given p (octets_per_tick p * (length h - g) + lead p) octets_then in
         ap₂ (λ (a b : ℕ). map given (numbers_from a (b - a)))

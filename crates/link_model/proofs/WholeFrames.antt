@@ -1,5 +1,5 @@
 -- The frames that become whole as columns of octets come, and the octets of a cell by division.
-use Rattle.std.proofs.Common.{◌≡◌, ℕ, zero, suc, ◌+◌, ◌-◌, ◌*◌, ◌/◌, ◌%◌, ◌^◌, ◌==◌, ◌<◌, ◌≤◌, ◌⊎◌, true, false, if◌then◌else◌, List, [], ◌∷◌, ◌++◌, map, length, take, drop, get_or, inl, inr, refl, sym, ap, ap₂, ◌∙◌, length-append, ne_eqb, arith}
+use Rattle.std.proofs.Common.{◌≡◌, ℕ, zero, suc, ◌+◌, ◌-◌, ◌*◌, ◌/◌, ◌%◌, ◌^◌, ◌==◌, ◌<◌, ◌≤◌, ◌⊎◌, if◌then◌else◌, List, [], ◌∷◌, ◌++◌, map, length, take, drop, get_or, inl, inr, refl, sym, ap, ap₂, ◌∙◌, length-append, ne_eqb, arith}
 use Rattle.std.proofs.Math.Nat.{div-mul-le_self, mod-lt, mul-le-mul_left, pow-suc}
 use Rattle.std.proofs.Math.Seq.{drop-append_seam, take-append_seam}
 use Rattle.std.proofs.lemmas.Bool.{cases_lt, cond-true, cond-false, eq-eqb}
@@ -43,7 +43,7 @@ next-number n f some =
           )
     ]
 
-div-le : (m n f : ℕ) → 0 < f → m ≤ n → m / f ≤ n / f
+pub div-le : (m n f : ℕ) → 0 < f → m ≤ n → m / f ≤ n / f
 div-le m n f some below =
     let parts : m / f * f ≤ m = div-mul-le_self m f in
     le-div (m / f) n f some (omega arith)
@@ -166,7 +166,7 @@ left-of-whole end f n some whole =
           let product : f * ((n + 1) / f) ≡ f * (n / f + 1) = ap (λ (k : ℕ). f * k) number in
           let times : f * (n / f + 1) ≡ n / f * f + f = omega arith in
           omega arith
-      | inr no ↦ let rest = no.0 in absurd (omega arith)
+      | inr apart ↦ let rest = apart.0 in absurd (omega arith)
     ]
 
 -- ---- the octets of a cell
@@ -175,8 +175,9 @@ pub power-octets : (n : ℕ) → 2 ^ (8 * n) ≡ 256 ^ n
 power-octets zero = refl
 power-octets (suc n) =
     let size : 8 * suc n ≡ 8 + 8 * n = omega arith in
+    let turn : 256 * 256 ^ n ≡ 256 ^ n * 256 = omega arith in
     ap (λ (k : ℕ). 2 ^ k) size ∙ pow-add 2 8 (8 * n) ∙ ap (λ (k : ℕ). 256 * k) (power-octets n)
-    ∙ sym (pow-suc 256 n)
+    ∙ turn ∙ sym (pow-suc 256 n)
 
 -- eight bits of a number, with `above` before them and `below` behind them
 octet-of-bits : (above below x : ℕ)
