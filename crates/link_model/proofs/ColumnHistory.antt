@@ -6,23 +6,26 @@ use Rattle.std.proofs.lemmas.Bool.{cases_Bool, cases_lt, cond-true, cond-false, 
 use Rattle.std.proofs.lemmas.List.{take-append-le}
 use Rattle.std.proofs.lemmas.Simd.{map-map}
 use Rattle.link_params.specs.declared.cells.LaneCell.{LaneCell}
-use Rattle.link_params.specs.Lanes.{Entry, LaneKind, Placed}
+use Rattle.link_params.specs.Lanes.{Entry, LaneKind, Placed, Taken}
 use Rattle.link_params.specs.Numbers.{octets_per_tick}
 use Rattle.bring_up.specs.declared.stage.Stage.TheVariants as stage
 use Rattle.bring_up.specs.Decisions.{is_running}
 use Rattle.lane_b.specs.Gives.{given}
 use Rattle.scenario.specs.Plans.{Plan, numbers_from}
-use Rattle.link_model.proofs.EntryCells.{HasCells, lead}
+use Rattle.link_model.proofs.Depth.{HasDepth, ready, tick-outcome, word-size}
+use Rattle.link_model.proofs.EntryCells.{HasCells, cells-of-entries}
+use Rattle.link_model.proofs.KindFacts.{KindFacts, entries-grow, lead}
 use Rattle.link_model.proofs.LaneHistory.{HasHunt, gave-next, session-goes-on, session-hunt, took-stepped}
 use Rattle.link_model.proofs.NextMoment.{lanes_of, next, took, with_next}
 use Rattle.link_model.proofs.NumberLists.{map-numbers}
 use Rattle.link_model.proofs.OctetColumns.{grid, grid-is, grid-next, length-grid, length-octets, octets-given-are, octets_of}
+use Rattle.link_model.proofs.WindowFacts.{IsLegal}
 use Rattle.link_model.specs.Before.{Columns, columns_now, current, no_cell, octet_columns}
 use Rattle.link_model.specs.Gives.{cells_in, gives_in, octets_given}
 use Rattle.link_model.specs.Hunts.{from_hunt, session}
 use Rattle.link_model.specs.LaneRuns.{given_by, lane_stepped}
 use Rattle.link_model.specs.Moments.{History}
-use Rattle.link_model.specs.Receives.{taken_in}
+use Rattle.link_model.specs.Receives.{taken_in, told_of}
 
 -- the entries of a lane in the session, with the tick
 abbrev pub came : LaneKind → Plan → History → ℕ → List Entry
@@ -105,8 +108,30 @@ pub record LaneHas (k : LaneKind) (s : Plan) (h : History) (lane : ℕ) : Type 0
 abbrev pub LanesHave : LaneKind → Plan → History → Type 0
 LanesHave k s h = (lane : ℕ) → lane < s.link.params.l → LaneHas k s h lane
 
-module _ (k : LaneKind) (s : Plan) (h : History) (some : 0 < s.link.params.l)
-    (begun : HasHunt h) (have : LanesHave k s h) where
+-- each lane of a run has what the ticks before left
+abbrev pub HaveDepth : LaneKind → Plan → History → Type 0
+HaveDepth k s h = (lane : ℕ) → lane < s.link.params.l → HasDepth k s h lane
+
+pub lanes-have : (k : LaneKind) (s : Plan) (h : History)
+    → KindFacts k s.link.params s.link.timing → IsLegal s.link.params s.link.timing
+    → HaveDepth k s h → LanesHave k s h
+lanes-have k s h facts legal kept lane below =
+    let r = ready k s h lane facts legal (kept lane below) in
+    let w : Taken = record { order = told_of s h; word = get_or (next k s h).taken lane [] } in
+    record {
+      cells = cells-of-entries s.link.params (came k s h lane) (facts.are lane (took k s h lane));
+      within = (tick-outcome k s h lane facts legal below (kept lane below)).within;
+      before = r.within;
+      grew = entries-grow k s.link.params s.link.timing facts lane (taken_in (session s h) lane) w
+          r.ticks (word-size k s h lane below) r.on;
+    }
+
+module _ (k : LaneKind) (s : Plan) (h : History) (facts : KindFacts k s.link.params s.link.timing)
+    (legal : IsLegal s.link.params s.link.timing) (some : 0 < s.link.params.l)
+    (begun : HasHunt h) (kept : HaveDepth k s h) where
+  have : LanesHave k s h
+  have = lanes-have k s h facts legal kept
+
   gave : ℕ
   gave = gives_in (session s h)
 

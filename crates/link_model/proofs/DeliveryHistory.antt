@@ -13,14 +13,15 @@ use Rattle.link_params.specs.Numbers.{octets_per_tick}
 use Rattle.sample_map.specs.Frames.{words_of}
 use Rattle.bring_up.specs.Decisions.{is_running}
 use Rattle.scenario.specs.Plans.{Plan, numbers_from}
-use Rattle.link_model.proofs.ColumnHistory.{LanesHave, came, columns-grid, columns_after, columns_kept, data_of, length-columns, length-kept, octets_came}
-use Rattle.link_model.proofs.EntryCells.{lead}
+use Rattle.link_model.proofs.ColumnHistory.{HaveDepth, LanesHave, came, columns-grid, columns_after, columns_kept, data_of, lanes-have, length-columns, length-kept, octets_came}
 use Rattle.link_model.proofs.FrameCells.{frame-cells-grid}
+use Rattle.link_model.proofs.KindFacts.{KindFacts, lead}
 use Rattle.link_model.proofs.LaneHistory.{HasHunt, session-goes-on, session-hunt}
 use Rattle.link_model.proofs.NextMoment.{delivered-next, lanes_of, next, with_next}
 use Rattle.link_model.proofs.NumberLists.{get_or-numbers, length-numbers, map-numbers}
 use Rattle.link_model.proofs.OctetColumns.{grid, length-octets, octets-given-are}
 use Rattle.link_model.proofs.WholeFrames.{div-le, frame_at, whole-part}
+use Rattle.link_model.proofs.WindowFacts.{IsLegal}
 use Rattle.link_model.specs.Before.{Columns, cells_of, columns_now, current, delivered_at, mark_of, values_of}
 use Rattle.link_model.specs.Gives.{frame_cells, frame_given, frames_given, frames_in, gives_in, octets_given}
 use Rattle.link_model.specs.Hunts.{from_hunt, or_else, session}
@@ -86,8 +87,12 @@ left-is m first gave t n times late within =
     let columns : m * (gave + 1 - first) ≡ m * (x + 1) = ap (λ (k : ℕ). m * k) given in
     omega arith
 
-module _ (k : LaneKind) (s : Plan) (h : History) (some : 0 < s.link.params.l)
-    (octets_some : 0 < s.link.params.f) (begun : HasHunt h) (have : LanesHave k s h) where
+module _ (k : LaneKind) (s : Plan) (h : History) (facts : KindFacts k s.link.params s.link.timing)
+    (legal : IsLegal s.link.params s.link.timing) (some : 0 < s.link.params.l)
+    (octets_some : 0 < s.link.params.f) (begun : HasHunt h) (kept : HaveDepth k s h) where
+  have : LanesHave k s h
+  have = lanes-have k s h facts legal kept
+
   given-octets : (n : ℕ)
       → map (octets_given s.link.params n) (map (came k s h) (lanes_of s))
       ≡ map (λ l. take (columns_after s n) (octets_came k s h l)) (lanes_of s)
@@ -145,11 +150,11 @@ module _ (k : LaneKind) (s : Plan) (h : History) (some : 0 < s.link.params.l)
 
     long-now : length (columns_now k s (with_next k s h)) ≡ columns_after s
         (gives_in (session s h) + 1)
-    long-now = length-columns k s h some begun have ∙ ap (columns_after s) one-more
+    long-now = length-columns k s h facts legal some begun kept ∙ ap (columns_after s) one-more
 
     columns-run : columns_now k s (with_next k s h) ≡ grid s.link.params.l (octets_came k s h)
         (columns_after s (gives_in (session s h) + 1))
-    columns-run = columns-grid k s h some begun have
+    columns-run = columns-grid k s h facts legal some begun kept
         ∙ ap (λ (n : ℕ). grid s.link.params.l (octets_came k s h) (columns_after s n)) one-more
 
     -- the octets of all lanes once this tick's are given
@@ -220,7 +225,7 @@ module _ (k : LaneKind) (s : Plan) (h : History) (some : 0 < s.link.params.l)
         ∙ map-numbers given (frame_at p end columns) (b - a) a
         (λ q below. frame-is q (omega arith))
         ∙ ap₂ (λ (a b : ℕ). map (frame_at p end columns) (numbers_from (a / p.f) (b / p.f - a / p.f)))
-        (sym (length-kept k s h some begun have)) (sym long-now)
+        (sym (length-kept k s h facts legal some begun kept)) (sym long-now)
 
   -- the frames that leave in the tick
   pub delivered-columns : (next k s h).delivered
@@ -242,8 +247,8 @@ module _ (k : LaneKind) (s : Plan) (h : History) (some : 0 < s.link.params.l)
             let none : g + (if is_running (next k s h).stage then 1 else 0) ≡ g =
             rw still (omega arith) in
             let same : length columns ≡ length (columns_kept k s h) =
-            length-columns k s h some begun have ∙ ap (columns_after s) none
-            ∙ sym (length-kept k s h some begun have) in
+            length-columns k s h facts legal some begun kept ∙ ap (columns_after s) none
+            ∙ sym (length-kept k s h facts legal some begun kept) in
             let few : length columns / p.f - length (columns_kept k s h) / p.f ≡ 0 =
             ap (λ (x : ℕ). x / p.f - length (columns_kept k s h) / p.f) same ∙ omega arith in
             delivered-next k s h ∙ cond-false (is_running (next k s h).stage) given [] still

@@ -1,14 +1,13 @@
 -- The cells among the entries of a session: none for the places of the alignment sequence, then
 -- data.
-use Rattle.std.proofs.Common.{◌≡◌, ℕ, zero, suc, ◌+◌, ◌-◌, ◌*◌, ◌<◌, ◌≤◌, ◌⊎◌, if◌then◌else◌, List, [], ◌∷◌, ◌++◌, map, replicate, length, take, get_or, Some, None, inl, inr, refl, sym, ap, ap₂, ◌∙◌, length-append, arith}
+use Rattle.std.proofs.Common.{◌≡◌, ℕ, zero, suc, ◌+◌, ◌-◌, ◌<◌, ◌≤◌, ◌⊎◌, List, [], ◌∷◌, ◌++◌, map, replicate, length, take, get_or, Some, None, inl, inr, refl, sym, ap, ap₂, ◌∙◌, length-append, arith}
 use Rattle.std.proofs.Math.Seq.{take-nil}
 use Rattle.std.proofs.lemmas.List.{length-map, length-replicate}
 use Rattle.link_params.specs.declared.fields.Params.{Params}
 use Rattle.link_params.specs.declared.cells.LaneCell.{LaneCell}
 use Rattle.link_params.specs.Lanes.{Entry, Placed, Held}
-use Rattle.link_params.specs.Laws.{is_b}
-use Rattle.link_params.specs.Numbers.{period}
 use Rattle.lane_b.specs.Gives.{given}
+use Rattle.link_model.proofs.KindFacts.{AreEntries, lead}
 use Rattle.link_model.specs.Before.{no_cell}
 use Rattle.link_model.specs.Gives.{cells_in}
 
@@ -66,10 +65,6 @@ given-no-data zero n = refl
 given-no-data (suc k) zero = refl
 given-no-data (suc k) (suc n) = given-no-data k n
 
--- the entries of the alignment sequence, before the first data
-abbrev pub lead : Params → ℕ
-lead p = if is_b p.mode then 4 * period p else 0
-
 -- what entries hold, of which up to m belong to the alignment sequence
 pub record HasCells (m : ℕ) (entries : List Entry) : Type 0 where
   pub cells : (n : ℕ) → cells_in (take n entries) ≡ take (n - m) (cells_in entries)
@@ -108,8 +103,6 @@ cells-of-shape m k cs few whole =
       }
     ]
 
--- entries that are places of the alignment sequence, and behind the last of them data
-pub cells-of-entries : (m : ℕ) (entries : List Entry) (k : ℕ) (cs : List LaneCell)
-    → entries ≡ replicate k Placed ++ map Held cs → k ≤ m → (cs ≡ []) ⊎ (k ≡ m)
-    → HasCells m entries
-cells-of-entries m entries k cs are few whole = rw are (cells-of-shape m k cs few whole)
+pub cells-of-entries : (p : Params) (entries : List Entry) → AreEntries p entries
+    → HasCells (lead p) entries
+cells-of-entries p entries a = rw a.are (cells-of-shape (lead p) a.placed a.cells a.few a.whole)

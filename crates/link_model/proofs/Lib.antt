@@ -1,10 +1,13 @@
+pub mod ArmedHistory
 pub mod ColumnHistory
 pub mod DecisionCases
 pub mod DeliveryHistory
 pub mod Depth
 pub mod EdgeTicks
 pub mod EntryCells
+pub mod FactsB
 pub mod FrameCells
+pub mod KindFacts
 pub mod LaneDepth
 pub mod LaneHistory
 pub mod NextMoment
@@ -12,8 +15,8 @@ pub mod NumberLists
 pub mod OctetColumns
 pub mod OrderLemmas
 pub mod RowHistory
+pub mod RunTicks
 pub mod RxHistory
 pub mod TxHistory
-pub mod WindowFacts
-pub mod RunTicks
 pub mod WholeFrames
+pub mod WindowFacts
