@@ -20,7 +20,7 @@ use Rattle.link_model.proofs.LaneHistory.{HasHunt, session-goes-on, session-hunt
 use Rattle.link_model.proofs.NextMoment.{delivered-next, lanes_of, next, with_next}
 use Rattle.link_model.proofs.NumberLists.{get_or-numbers, length-numbers, map-numbers}
 use Rattle.link_model.proofs.OctetColumns.{grid, length-octets, octets-given-are}
-use Rattle.link_model.proofs.WholeFrames.{div-le, frame_at, whole-part}
+use Rattle.link_model.proofs.WholeFrames.{delivered-none, div-le, frame_at, whole-part}
 use Rattle.link_model.proofs.WindowFacts.{IsLegal}
 use Rattle.link_model.specs.Before.{Columns, cells_of, columns_now, current, delivered_at, mark_of, values_of}
 use Rattle.link_model.specs.Gives.{frame_cells, frame_given, frames_given, frames_in, gives_in, octets_given}
@@ -86,6 +86,10 @@ left-is m first gave t n times late within =
     ∙ (let e : m * (y + first + (x + 1)) ≡ m * y + m * first + m * (x + 1) = omega arith in e) in
     let columns : m * (gave + 1 - first) ≡ m * (x + 1) = ap (λ (k : ℕ). m * k) given in
     omega arith
+
+one-at-most : (b : Bool) → (if b then 1 else 0) ≤ 1
+one-at-most true = omega arith
+one-at-most false = omega arith
 
 module _ (k : LaneKind) (s : Plan) (h : History) (facts : KindFacts k s.link.params s.link.timing)
     (legal : IsLegal s.link.params s.link.timing) (some : 0 < s.link.params.l)
@@ -231,7 +235,6 @@ module _ (k : LaneKind) (s : Plan) (h : History) (facts : KindFacts k s.link.par
   pub delivered-columns : (next k s h).delivered
       ≡ delivered_at s.link.params (octets_per_tick s.link.params * (length h + 1))
       (length (columns_kept k s h)) (columns_now k s (with_next k s h))
-  unfolding numbers_from
   delivered-columns =
       let p = s.link.params in
       let g : ℕ = gives_in (session s h) in
@@ -249,12 +252,24 @@ module _ (k : LaneKind) (s : Plan) (h : History) (facts : KindFacts k s.link.par
             let same : length columns ≡ length (columns_kept k s h) =
             length-columns k s h facts legal some begun kept ∙ ap (columns_after s) none
             ∙ sym (length-kept k s h facts legal some begun kept) in
-            let few : length columns / p.f - length (columns_kept k s h) / p.f ≡ 0 =
-            ap (λ (x : ℕ). x / p.f - length (columns_kept k s h) / p.f) same ∙ omega arith in
             delivered-next k s h ∙ cond-false (is_running (next k s h).stage) given [] still
-            ∙ sym (ap (λ (x : ℕ). map (frame_at p end columns)
-            (numbers_from (length (columns_kept k s h) / p.f) x)) few)
+            ∙ sym (delivered-none p end (length (columns_kept k s h)) columns same)
       ]
+
+  -- in the alignment sequence none leaves
+  pub delivered-early : gives_in (session s h) < lead s.link.params → (next k s h).delivered ≡ []
+  delivered-early early =
+      let p = s.link.params in
+      let g : ℕ = gives_in (session s h) in
+      let one : ℕ = if is_running (next k s h).stage then 1 else 0 in
+      let few : one ≤ 1 = one-at-most (is_running (next k s h).stage) in
+      let same : g + one - lead p ≡ g - lead p = omega arith in
+      delivered-columns
+      ∙ delivered-none p (octets_per_tick p * (length h + 1)) (length (columns_kept k s h))
+      (columns_now k s (with_next k s h))
+      (length-columns k s h facts legal some begun kept
+      ∙ ap (λ (n : ℕ). octets_per_tick p * n) same
+      ∙ sym (length-kept k s h facts legal some begun kept))
 
 -- where the lanes do not run none leaves
 pub delivered-still : (k : LaneKind) (s : Plan) (h : History)

@@ -146,8 +146,3 @@ grid-is l some_octets all n some are enough =
     (λ lane. get_or (all lane) i no_cell) l 0
     (λ lane inside. ap (λ (cs : List LaneCell). get_or cs i no_cell) (are lane (omega arith))
     ∙ get_or-take n (all lane) i no_cell (omega arith)))
-
-pub octet-columns-length : (p : Params) (column : List LaneCell)
-    → length (octet_columns p column) ≡ octets_per_tick p
-octet-columns-length p column = length-map (numbers_from 0 (octets_per_tick p)) _
-    ∙ length-numbers (octets_per_tick p) 0

@@ -3,7 +3,7 @@ use Rattle.std.proofs.Common.{◌≡◌, ℕ, zero, suc, ◌+◌, ◌-◌, ◌*�
 use Rattle.std.proofs.Math.Nat.{div-mul-le_self, mod-lt, mul-le-mul_left, pow-suc}
 use Rattle.std.proofs.Math.Seq.{drop-append_seam, take-append_seam}
 use Rattle.std.proofs.lemmas.Bool.{cases_lt, cond-true, cond-false, eq-eqb}
-use Rattle.std.proofs.lemmas.List.{get_or-map, get_or_append_left, map-append}
+use Rattle.std.proofs.lemmas.List.{append-nil, get_or-map, get_or_append_left, length-map, map-append, map_push}
 use Rattle.std.proofs.lemmas.Nat.{div-mul-add, le-div, mod-mul-add, pow-add}
 use Rattle.jesd_base.specs.Bits.{bits, value}
 use Rattle.jesd_base.proofs.BitLemmas.{bits_length, bits_of_parts, value_of_bits}
@@ -13,7 +13,7 @@ use Rattle.link_params.specs.declared.cells.LaneCell.{LaneCell}
 use Rattle.link_params.specs.Numbers.{octets_per_tick}
 use Rattle.sample_map.specs.Frames.{words_of}
 use Rattle.scenario.specs.Plans.{numbers_from}
-use Rattle.link_model.proofs.NumberLists.{get_or-numbers, length-numbers, map-numbers, numbers-append}
+use Rattle.link_model.proofs.NumberLists.{get_or-numbers, length-numbers, map-numbers, map-shift, numbers-append, numbers-more}
 use Rattle.link_model.specs.Before.{Columns, cell_at, cells_of, delivered_at, mark_of, no_cell, octet_columns, values_of}
 use Rattle.link_model.specs.Gives.{octets_in}
 use Rattle.link_model.specs.Moments.{Delivered}
@@ -56,6 +56,34 @@ whole-part n f q some below =
     let size : f * (q + 1) ≡ q * f + f = omega arith in
     let parts : f * (n / f) + n % f ≡ n = omega arith in
     omega arith
+
+-- the parts that are whole with n and were not with `before`, with one more
+pub whole-numbers-more : (f before n : ℕ) → 0 < f → before ≤ n
+    → numbers_from (before / f) ((n + 1) / f - before / f)
+    ≡ numbers_from (before / f) (n / f - before / f)
+    ++ (if (n + 1) % f == 0 then n / f ∷ [] else [])
+unfolding numbers_from
+whole-numbers-more f before n some below =
+    let up : before / f ≤ n / f = div-le before n f some below in
+    let old : List ℕ = numbers_from (before / f) (n / f - before / f) in
+    elim (next-number n f some) [
+      | inl whole ↦
+          let number = whole.1 in
+          let count : (n + 1) / f - before / f ≡ n / f - before / f + 1 = omega arith in
+          let from : before / f + (n / f - before / f) ≡ n / f = omega arith in
+          ap (numbers_from (before / f)) count
+          ∙ numbers-append (n / f - before / f) 1 (before / f)
+          ∙ ap (λ (x : ℕ). old ++ x ∷ []) from
+          ∙ sym (ap (λ (l : List ℕ). old ++ l) (cond-true ((n + 1) % f == 0) (n / f ∷ []) []
+          (eq-eqb ((n + 1) % f) 0 whole.0)))
+      | inr apart ↦
+          let rest = apart.0 in
+          let number = apart.1 in
+          let count : (n + 1) / f - before / f ≡ n / f - before / f = omega arith in
+          ap (numbers_from (before / f)) count ∙ sym (append-nil old)
+          ∙ sym (ap (λ (l : List ℕ). old ++ l) (cond-false ((n + 1) % f == 0) (n / f ∷ []) []
+          (ne_eqb ((n + 1) % f) 0 (λ e. absurd (omega arith)))))
+    ]
 
 -- ---- frames
 
@@ -115,11 +143,13 @@ delivered-splits p end before cs ds some below =
     (ap (λ (k : ℕ). map frame (numbers_from k (length (cs ++ ds) / f - length cs / f))) from)
 
 -- no columns more, no frames
-pub delivered-none : (p : Params) (end : ℕ) (cs : Columns) → delivered_at p end (length cs) cs ≡ []
+pub delivered-none : (p : Params) (end before : ℕ) (cs : Columns) → length cs ≡ before
+    → delivered_at p end before cs ≡ []
 unfolding numbers_from
-delivered-none p end cs =
-    let none : length cs / p.f - length cs / p.f ≡ 0 = omega arith in
-    ap (λ (k : ℕ). map (frame_at p end cs) (numbers_from (length cs / p.f) k)) none
+delivered-none p end before cs same =
+    let none : length cs / p.f - before / p.f ≡ 0 =
+    ap (λ (n : ℕ). n / p.f - before / p.f) same ∙ omega arith in
+    ap (λ (k : ℕ). map (frame_at p end cs) (numbers_from (before / p.f) k)) none
 
 one-number : (g : ℕ → Delivered) (a n : ℕ) → n ≡ 1 → map g (numbers_from a n) ≡ g a ∷ []
 unfolding numbers_from
@@ -155,6 +185,57 @@ delivered-one p end cs c some =
           (ne_eqb ((n + 1) % f) 0 (λ e. absurd (omega arith))))
     ]
 
+-- the frames with one column more
+pub delivered-more : (p : Params) (end before : ℕ) (cs : Columns) (c : List LaneCell) → 0 < p.f
+    → before ≤ length cs
+    → delivered_at p (end + 1) before (cs ++ c ∷ [])
+    ≡ delivered_at p end before cs
+    ++ (if (length cs + 1) % p.f == 0
+    then frame_at p (end + 1) (cs ++ c ∷ []) (length cs / p.f) ∷ []
+    else [])
+delivered-more p end before cs c some below =
+    delivered-splits p end before cs (c ∷ []) some below
+    ∙ ap (λ (ds : List Delivered). delivered_at p end before cs ++ ds)
+    (delivered-one p (end + 1) cs c some)
+
+-- the frames by their number in the tick, and their times by how many octets of each lane came
+-- behind them
+pub delivered-by-place : (p : Params) (end before : ℕ) (columns : Columns) → 0 < p.f
+    → before ≤ length columns
+    → delivered_at p end before columns
+    ≡ map (λ i. record {
+      left = end + i * p.f
+          - (length columns % p.f + (length columns / p.f - before / p.f) * p.f);
+      mark = mark_of (cells_of p columns (before / p.f + i) p.f);
+      words = words_of p (values_of (cells_of p columns (before / p.f + i) p.f));
+    }) (numbers_from 0 (length columns / p.f - before / p.f))
+delivered-by-place p end before columns some below =
+    let f = p.f in
+    let n : ℕ = length columns in
+    let a : ℕ = before / f in
+    let count : ℕ = n / f - a in
+    let up : a ≤ n / f = div-le before n f some below in
+    let from : a ≡ a + 0 = omega arith in
+    let parts : f * (n / f) + n % f ≡ n = omega arith in
+    let whole : n / f ≡ a + count = omega arith in
+    let size : f * (n / f) ≡ a * f + count * f =
+    ap (λ (k : ℕ). f * k) whole
+    ∙ (let e : f * (a + count) ≡ a * f + count * f = omega arith in e) in
+    ap (λ (k : ℕ). map (frame_at p end columns) (numbers_from k count)) from
+    ∙ map-shift (frame_at p end columns) count 0 a
+    ∙ map-numbers (λ i. frame_at p end columns (a + i)) (λ i. let d : Delivered = record {
+      left = end + i * f - (n % f + count * f);
+      mark = mark_of (cells_of p columns (a + i) f);
+      words = words_of p (values_of (cells_of p columns (a + i) f));
+    } in d) count 0 (λ i inside.
+    let place : (a + i) * f ≡ a * f + i * f = omega arith in
+    let left : end + (a + i) * f - n ≡ end + i * f - (n % f + count * f) = omega arith in
+    ap (λ (at : ℕ). let d : Delivered = record {
+      left = at;
+      mark = mark_of (cells_of p columns (a + i) f);
+      words = words_of p (values_of (cells_of p columns (a + i) f));
+    } in d) left)
+
 -- a frame that becomes whole with the last column left in the time of its first one
 pub left-of-whole : (end f n : ℕ) → 0 < f → (n + 1) % f ≡ 0
     → end + n / f * f - (n + 1) ≡ end - f
@@ -168,6 +249,35 @@ left-of-whole end f n some whole =
           omega arith
       | inr apart ↦ let rest = apart.0 in absurd (omega arith)
     ]
+
+-- ---- the columns of a tick
+
+pub length-octet-columns : (p : Params) (column : List LaneCell)
+    → length (octet_columns p column) ≡ octets_per_tick p
+length-octet-columns p column = length-map (numbers_from 0 (octets_per_tick p)) _
+    ∙ length-numbers (octets_per_tick p) 0
+
+-- octet j of each cell
+abbrev pub octet_column : Params → List LaneCell → ℕ → List LaneCell
+octet_column p column j = map (λ c. get_or (octets_in p c) j no_cell) column
+
+-- the columns of the first n octets; of all of them they are octet_columns
+abbrev pub first_columns : Params → List LaneCell → ℕ → Columns
+first_columns p column n = map (octet_column p column) (numbers_from 0 n)
+
+pub first-columns-more : (p : Params) (column : List LaneCell) (n : ℕ)
+    → first_columns p column (n + 1) ≡ first_columns p column n ++ octet_column p column n ∷ []
+first-columns-more p column n =
+    let more : n + 1 ≡ suc n = omega arith in
+    let last : 0 + n ≡ n = omega arith in
+    ap (first_columns p column) more
+    ∙ ap (map (octet_column p column)) (numbers-more n 0)
+    ∙ map_push (octet_column p column) (numbers_from 0 n) (0 + n)
+    ∙ ap (λ (j : ℕ). first_columns p column n ++ octet_column p column j ∷ []) last
+
+pub first-columns-all : (p : Params) (column : List LaneCell)
+    → first_columns p column (octets_per_tick p) ≡ octet_columns p column
+first-columns-all p column = refl
 
 -- ---- the octets of a cell
 
