@@ -18,7 +18,7 @@ use Rattle.link_model.proofs.KindFacts.{KindFacts, entries-grow, lead}
 use Rattle.link_model.proofs.LaneHistory.{HasHunt, gave-next, session-goes-on, session-hunt, took-stepped}
 use Rattle.link_model.proofs.NextMoment.{lanes_of, next, took, with_next}
 use Rattle.link_model.proofs.NumberLists.{map-numbers}
-use Rattle.link_model.proofs.OctetColumns.{grid, grid-is, grid-next, length-grid, length-octets, octets-given-are, octets_of}
+use Rattle.link_model.proofs.OctetColumns.{grid, grid-is, grid-next, length-grid, length-octets, octets-given-are, all_octets}
 use Rattle.link_model.proofs.WindowFacts.{IsLegal}
 use Rattle.link_model.specs.Before.{Columns, columns_now, current, no_cell, octet_columns}
 use Rattle.link_model.specs.Gives.{cells_in, gives_in, octets_given}
@@ -54,7 +54,7 @@ column k s h = map (cell_given k s h) (lanes_of s)
 
 -- all octets of a lane in the session, with the tick
 abbrev pub octets_came : LaneKind → Plan → History → ℕ → List LaneCell
-octets_came k s h lane = octets_of s.link.params (data_of k s h lane)
+octets_came k s h lane = all_octets s.link.params (data_of k s h lane)
 
 -- those that a lane gave in the ticks of a session
 abbrev octets_in_ticks : LaneKind → Plan → History → ℕ → List LaneCell
@@ -173,7 +173,7 @@ module _ (k : LaneKind) (s : Plan) (h : History) (facts : KindFacts k s.link.par
       let g = has.grew in
       let old : List Entry =
       k.entries s.link.params s.link.timing lane (taken_in (session s h) lane) in
-      ap (λ (es : List Entry). octets_of s.link.params (cells_in es))
+      ap (λ (es : List Entry). all_octets s.link.params (cells_in es))
       (sym (take-append-le (gives_in (session s h)) old g.0 has.before)
       ∙ ap (take (gives_in (session s h))) (sym g.1))
       ∙ octets-given-are s.link.params (lead s.link.params) (gives_in (session s h))

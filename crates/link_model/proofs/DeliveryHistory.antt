@@ -228,7 +228,8 @@ module _ (k : LaneKind) (s : Plan) (h : History) (facts : KindFacts k s.link.par
         (frames-count g (omega arith)) (frames-count (g + 1) one)
         ∙ map-numbers given (frame_at p end columns) (b - a) a
         (λ q below. frame-is q (omega arith))
-        ∙ ap₂ (λ (a b : ℕ). map (frame_at p end columns) (numbers_from (a / p.f) (b / p.f - a / p.f)))
+        ∙ ap₂ (λ (a b : ℕ). map (frame_at p end columns)
+        (numbers_from (a / p.f) (b / p.f - a / p.f)))
         (sym (length-kept k s h facts legal some begun kept)) (sym long-now)
 
   -- the frames that leave in the tick

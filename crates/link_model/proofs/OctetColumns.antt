@@ -15,8 +15,8 @@ use Rattle.link_model.specs.Before.{Columns, no_cell, octet_columns}
 use Rattle.link_model.specs.Gives.{cells_in, octets_given, octets_in}
 
 -- all octets of these cells
-abbrev pub octets_of : Params → List LaneCell → List LaneCell
-octets_of p cs = flat_map (octets_in p) cs
+abbrev pub all_octets : Params → List LaneCell → List LaneCell
+all_octets p cs = flat_map (octets_in p) cs
 
 pub length-octets-in : (p : Params) (c : LaneCell) → length (octets_in p c) ≡ octets_per_tick p
 length-octets-in p c = length-map (numbers_from 0 (octets_per_tick p)) _
@@ -63,13 +63,13 @@ get_or-flat f m (x ∷ xs) (suc k) j a b each below inside =
     ∙ get_or-flat f m xs k j a b each (omega arith) inside
 
 pub length-octets : (p : Params) (cs : List LaneCell)
-    → length (octets_of p cs) ≡ octets_per_tick p * length cs
+    → length (all_octets p cs) ≡ octets_per_tick p * length cs
 length-octets p cs = length-flat (octets_in p) (octets_per_tick p) cs (length-octets-in p)
 
 -- octet j of cell k
 pub octet-of-cell : (p : Params) (cs : List LaneCell) (k j : ℕ) → k < length cs
     → j < octets_per_tick p
-    → get_or (octets_of p cs) (octets_per_tick p * k + j) no_cell
+    → get_or (all_octets p cs) (octets_per_tick p * k + j) no_cell
     ≡ get_or (octets_in p (get_or cs k no_cell)) j no_cell
 octet-of-cell p cs k j below inside =
     get_or-flat (octets_in p) (octets_per_tick p) cs k j no_cell no_cell (length-octets-in p) below
@@ -78,10 +78,10 @@ octet-of-cell p cs k j below inside =
 -- the octets of the first entries of a session
 pub octets-given-are : (p : Params) (m n : ℕ) (entries : List Entry) → HasCells m entries
     → octets_given p n entries
-    ≡ take (octets_per_tick p * (n - m)) (octets_of p (cells_in entries))
+    ≡ take (octets_per_tick p * (n - m)) (all_octets p (cells_in entries))
 unfolding octets_given
 octets-given-are p m n entries h =
-    ap (octets_of p) (h.cells n)
+    ap (all_octets p) (h.cells n)
     ∙ take-flat (octets_in p) (octets_per_tick p) (cells_in entries) (n - m) (length-octets-in p)
 
 -- ---- columns
@@ -111,12 +111,12 @@ grid-append l octets n m =
 -- the octets of one cell more of each lane
 pub grid-next : (p : Params) (l : ℕ) (cells : ℕ → List LaneCell) (k : ℕ)
     → ((lane : ℕ) → lane < l → k < length (cells lane))
-    → grid l (λ lane. octets_of p (cells lane)) (octets_per_tick p * (k + 1))
-    ≡ grid l (λ lane. octets_of p (cells lane)) (octets_per_tick p * k)
+    → grid l (λ lane. all_octets p (cells lane)) (octets_per_tick p * (k + 1))
+    ≡ grid l (λ lane. all_octets p (cells lane)) (octets_per_tick p * k)
     ++ octet_columns p (map (λ lane. get_or (cells lane) k no_cell) (numbers_from 0 l))
 grid-next p l cells k have =
     let m : ℕ = octets_per_tick p in
-    let octets : ℕ → List LaneCell = λ lane. octets_of p (cells lane) in
+    let octets : ℕ → List LaneCell = λ lane. all_octets p (cells lane) in
     let column : List LaneCell = map (λ lane. get_or (cells lane) k no_cell) (numbers_from 0 l) in
     let size : m * (k + 1) ≡ m * k + m = omega arith in
     ap (grid l octets) size ∙ grid-append l octets (m * k) m

@@ -57,31 +57,33 @@ whole-part n f q some below =
     let parts : f * (n / f) + n % f ≡ n = omega arith in
     omega arith
 
--- the parts that are whole with n and were not with `before`, with one more
-pub whole-numbers-more : (f before n : ℕ) → 0 < f → before ≤ n
-    → numbers_from (before / f) ((n + 1) / f - before / f)
-    ≡ numbers_from (before / f) (n / f - before / f)
-    ++ (if (n + 1) % f == 0 then n / f ∷ [] else [])
+-- the parts that are whole with n + 1 and were not with `before`: those with n, and maybe one more
+pub whole-parts-more : {A : Type 0} (g : ℕ → A) → (f before n : ℕ) → 0 < f → before ≤ n
+    → map g (numbers_from (before / f) ((n + 1) / f - before / f))
+    ≡ map g (numbers_from (before / f) (n / f - before / f))
+    ++ (if (n + 1) % f == 0 then g (n / f) ∷ [] else [])
 unfolding numbers_from
-whole-numbers-more f before n some below =
+whole-parts-more {A} g f before n some below =
     let up : before / f ≤ n / f = div-le before n f some below in
-    let old : List ℕ = numbers_from (before / f) (n / f - before / f) in
+    let numbers : List ℕ = numbers_from (before / f) (n / f - before / f) in
+    let old : List A = map g numbers in
     elim (next-number n f some) [
       | inl whole ↦
           let number = whole.1 in
           let count : (n + 1) / f - before / f ≡ n / f - before / f + 1 = omega arith in
           let from : before / f + (n / f - before / f) ≡ n / f = omega arith in
-          ap (numbers_from (before / f)) count
-          ∙ numbers-append (n / f - before / f) 1 (before / f)
-          ∙ ap (λ (x : ℕ). old ++ x ∷ []) from
-          ∙ sym (ap (λ (l : List ℕ). old ++ l) (cond-true ((n + 1) % f == 0) (n / f ∷ []) []
+          ap (λ (k : ℕ). map g (numbers_from (before / f) k)) count
+          ∙ ap (map g) (numbers-append (n / f - before / f) 1 (before / f)
+          ∙ ap (λ (x : ℕ). numbers ++ x ∷ []) from)
+          ∙ map_push g numbers (n / f)
+          ∙ sym (ap (λ (l : List A). old ++ l) (cond-true ((n + 1) % f == 0) (g (n / f) ∷ []) []
           (eq-eqb ((n + 1) % f) 0 whole.0)))
       | inr apart ↦
           let rest = apart.0 in
           let number = apart.1 in
           let count : (n + 1) / f - before / f ≡ n / f - before / f = omega arith in
-          ap (numbers_from (before / f)) count ∙ sym (append-nil old)
-          ∙ sym (ap (λ (l : List ℕ). old ++ l) (cond-false ((n + 1) % f == 0) (n / f ∷ []) []
+          ap (λ (k : ℕ). map g (numbers_from (before / f) k)) count ∙ sym (append-nil old)
+          ∙ sym (ap (λ (l : List A). old ++ l) (cond-false ((n + 1) % f == 0) (g (n / f) ∷ []) []
           (ne_eqb ((n + 1) % f) 0 (λ e. absurd (omega arith)))))
     ]
 
@@ -151,39 +153,22 @@ delivered-none p end before cs same =
     ap (λ (n : ℕ). n / p.f - before / p.f) same ∙ omega arith in
     ap (λ (k : ℕ). map (frame_at p end cs) (numbers_from (before / p.f) k)) none
 
-one-number : (g : ℕ → Delivered) (a n : ℕ) → n ≡ 1 → map g (numbers_from a n) ≡ g a ∷ []
-unfolding numbers_from
-one-number g a n e = rw e refl
-
-no-numbers : (g : ℕ → Delivered) (a n : ℕ) → n ≡ 0 → map g (numbers_from a n) ≡ []
-unfolding numbers_from
-no-numbers g a n e = rw e refl
-
 -- with one column more the frame is whole whose last octets it has, if any
 pub delivered-one : (p : Params) (end : ℕ) (cs : Columns) (c : List LaneCell) → 0 < p.f
     → delivered_at p end (length cs) (cs ++ c ∷ [])
     ≡ (if (length cs + 1) % p.f == 0
     then frame_at p end (cs ++ c ∷ []) (length cs / p.f) ∷ []
     else [])
+unfolding numbers_from
 delivered-one p end cs c some =
-    let f = p.f in
     let n : ℕ = length cs in
     let frame : ℕ → Delivered = frame_at p end (cs ++ c ∷ []) in
-    let more : length (cs ++ c ∷ []) ≡ n + 1 = length-append cs (c ∷ []) in
-    let quotient : length (cs ++ c ∷ []) / f ≡ (n + 1) / f = ap (λ (k : ℕ). k / f) more in
-    elim (next-number n f some) [
-      | inl whole ↦
-          let number = whole.1 in
-          one-number frame (n / f) (length (cs ++ c ∷ []) / f - n / f) (omega arith)
-          ∙ sym (cond-true ((n + 1) % f == 0) (frame (n / f) ∷ []) []
-          (eq-eqb ((n + 1) % f) 0 whole.0))
-      | inr within ↦
-          let number = within.1 in
-          let rest = within.0 in
-          no-numbers frame (n / f) (length (cs ++ c ∷ []) / f - n / f) (omega arith)
-          ∙ sym (cond-false ((n + 1) % f == 0) (frame (n / f) ∷ []) []
-          (ne_eqb ((n + 1) % f) 0 (λ e. absurd (omega arith))))
-    ]
+    let due : List Delivered = if (n + 1) % p.f == 0 then frame (n / p.f) ∷ [] else [] in
+    let none : n / p.f - n / p.f ≡ 0 = omega arith in
+    ap (λ (k : ℕ). map frame (numbers_from (n / p.f) (k / p.f - n / p.f)))
+    (length-append cs (c ∷ []))
+    ∙ whole-parts-more frame p.f n n some (omega arith)
+    ∙ ap (λ (k : ℕ). map frame (numbers_from (n / p.f) k) ++ due) none
 
 -- the frames with one column more
 pub delivered-more : (p : Params) (end before : ℕ) (cs : Columns) (c : List LaneCell) → 0 < p.f
