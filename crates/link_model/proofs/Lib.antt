@@ -6,6 +6,8 @@ pub mod Depth
 pub mod EdgeTicks
 pub mod EntryCells
 pub mod FactsB
+pub mod FactsC
+pub mod FactsOf
 pub mod FrameCells
 pub mod KindFacts
 pub mod LaneDepth
@@ -14,6 +16,7 @@ pub mod NextMoment
 pub mod NumberLists
 pub mod OctetColumns
 pub mod OrderLemmas
+pub mod PlacesC
 pub mod RowHistory
 pub mod RunTicks
 pub mod RxHistory
