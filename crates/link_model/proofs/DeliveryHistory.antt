@@ -1,5 +1,5 @@
 -- The frames that leave in a tick, by the columns of the session.
-use Rattle.std.proofs.Common.{◌≡◌, ℕ, ◌+◌, ◌-◌, ◌*◌, ◌/◌, ◌<◌, ◌≤◌, Bool, true, false, if◌then◌else◌, List, [], ◌∷◌, map, length, take, get_or, Option, Some, None, inl, inr, refl, sym, ap, ap₂, ◌∙◌, length-take, unwrap_or, arith}
+use Rattle.std.proofs.Common.{◌≡◌, ℕ, suc, ◌+◌, ◌-◌, ◌*◌, ◌/◌, ◌<◌, ◌≤◌, Bool, true, false, if◌then◌else◌, List, [], ◌∷◌, map, length, take, get_or, Option, Some, None, inl, inr, refl, sym, ap, ap₂, ◌∙◌, length-take, unwrap_or, arith}
 use Rattle.std.proofs.Math.Nat.{mul-le-mul_left}
 use Rattle.std.proofs.lemmas.Bool.{cases_Bool, cases_lt, cond-true, cond-false}
 use Rattle.std.proofs.lemmas.List.{get_or-map}
@@ -7,25 +7,32 @@ use Rattle.std.proofs.lemmas.List.Sums.{count_by-le-length}
 use Rattle.std.proofs.lemmas.Simd.{map-map}
 use Rattle.link_params.specs.declared.fields.Params.{Params}
 use Rattle.link_params.specs.declared.cells.LaneCell.{LaneCell}
-use Rattle.link_params.specs.Laws.{is_b}
+use Rattle.link_params.specs.Laws.{broken_law, is_b}
 use Rattle.link_params.specs.Lanes.{LaneKind}
+use Rattle.link_params.specs.TimingLaws.{broken_timing}
+use Rattle.link_params.proofs.LawFacts.{legal_sizes}
 use Rattle.link_params.specs.Numbers.{octets_per_tick}
 use Rattle.sample_map.specs.Frames.{words_of}
 use Rattle.bring_up.specs.Decisions.{is_running}
 use Rattle.scenario.specs.Plans.{Plan, numbers_from}
 use Rattle.link_model.proofs.ColumnHistory.{HaveDepth, LanesHave, came, columns-grid, columns_after, columns_kept, data_of, lanes-have, length-columns, length-kept, octets_came}
+use Rattle.link_model.proofs.Depth.{depth-run}
+use Rattle.link_model.proofs.FactsOf.{facts-of}
 use Rattle.link_model.proofs.FrameCells.{frame-cells-grid}
 use Rattle.link_model.proofs.KindFacts.{KindFacts, lead}
-use Rattle.link_model.proofs.LaneHistory.{HasHunt, session-goes-on, session-hunt}
+use Rattle.link_model.proofs.LaneHistory.{HasHunt, has-hunt-run, session-goes-on, session-hunt}
 use Rattle.link_model.proofs.NextMoment.{delivered-next, lanes_of, next, with_next}
 use Rattle.link_model.proofs.NumberLists.{get_or-numbers, length-numbers, map-numbers}
 use Rattle.link_model.proofs.OctetColumns.{grid, length-octets, octets-given-are}
+use Rattle.link_model.proofs.RunTicks.{length-run}
 use Rattle.link_model.proofs.WholeFrames.{delivered-none, div-le, frame_at, whole-part}
-use Rattle.link_model.proofs.WindowFacts.{IsLegal}
+use Rattle.link_model.proofs.WindowFacts.{IsLegal, legal}
 use Rattle.link_model.specs.Before.{Columns, cells_of, columns_now, current, delivered_at, mark_of, values_of}
 use Rattle.link_model.specs.Gives.{frame_cells, frame_given, frames_given, frames_in, gives_in, octets_given}
 use Rattle.link_model.specs.Hunts.{from_hunt, or_else, session}
+use Rattle.link_model.specs.Kinds.{kind_of, moment_of, run_of}
 use Rattle.link_model.specs.Moments.{Delivered, History, Moment}
+use Rattle.link_model.specs.Run.{run}
 
 -- ---- the session is a part of the history
 
@@ -280,3 +287,23 @@ delivered-still k s h e =
     ∙ cond-false (is_running (next k s h).stage)
     (frames_given s.link.params (length h - gives_in (session s h)) (gives_in (session s h))
     (map (came k s h) (lanes_of s))) [] e
+
+-- the frames that leave in a tick of a run, whatever its mode
+pub delivered-run : (s : Plan) (t : ℕ) → broken_law s.link.params ≡ None
+    → broken_timing s.link.params s.link.timing ≡ None
+    → (moment_of s (run_of s t)).delivered
+    ≡ delivered_at s.link.params (octets_per_tick s.link.params * (t + 1))
+    (length (columns_kept (kind_of s.link.params) s (run_of s t)))
+    (columns_now (kind_of s.link.params) s (run_of s (suc t)))
+unfolding run
+delivered-run s t laws timing =
+    let p = s.link.params in
+    let k : LaneKind = kind_of p in
+    let facts = facts-of p s.link.timing in
+    let sizes = legal_sizes p laws in
+    let h : History = run_of s t in
+    let columns : Columns = columns_now k s (with_next k s h) in
+    delivered-columns k s h facts (legal p s.link.timing laws timing) sizes.l_low sizes.f_low
+    (has-hunt-run k t s) (λ lane below. depth-run k t s lane facts laws timing below)
+    ∙ ap (λ (n : ℕ). delivered_at p (octets_per_tick p * (n + 1))
+    (length (columns_kept k s h)) columns) (length-run k s t)
