@@ -14,10 +14,12 @@ pub mod LaneDepth
 pub mod LaneHistory
 pub mod NextMoment
 pub mod NumberLists
+pub mod OctetColumns
 pub mod OrderLemmas
 pub mod PlacesC
 pub mod RowHistory
 pub mod RunTicks
 pub mod RxHistory
 pub mod TxHistory
+pub mod WholeFrames
 pub mod WindowFacts
