@@ -171,7 +171,8 @@ module _ (k : LaneKind) (s : Plan) (h : History) (facts : KindFacts k s.link.par
         let g : ℕ = gives_in (session s h) in
         ap (frame_cells p q) (given-octets (g + 1))
         ∙ frame-cells-grid p (octets_came k s h) (columns_after s (g + 1)) q octets_some whole
-        (λ lane below. enough k s h facts legal some begun kept (g + 1) lane (has-one lane below) below)
+        (λ lane below. enough k s h facts legal some begun kept (g + 1) lane (has-one lane below)
+        below)
         ∙ ap (λ (c : Columns). cells_of p c q p.f) (sym columns-run)
 
     frame-is : (q : ℕ) → q < columns_after s (gives_in (session s h) + 1) / s.link.params.f
