@@ -132,20 +132,18 @@ module _ (k : LaneKind) (s : Plan) (h : History) (facts : KindFacts k s.link.par
   have : LanesHave k s h
   have = lanes-have k s h facts legal kept
 
-  gave : ℕ
+  -- the entries that each lane gave before the tick, and how many each gives in it
+  abbrev gave : ℕ
   gave = gives_in (session s h)
 
-  one : ℕ
+  abbrev one : ℕ
   one = if is_running (next k s h).stage then 1 else 0
 
-  -- each lane has that many octets
-  enough : (n lane : ℕ) → n ≤ gave + one → lane < s.link.params.l
+  -- each lane has as many octets as there are columns
+  pub enough : (n lane : ℕ) → n ≤ length (came k s h lane) → lane < s.link.params.l
       → columns_after s n ≤ length (octets_came k s h lane)
-  unfolding gave one
   enough n lane few below =
-      let has = have lane below in
-      let many = has.cells.many in
-      let within = has.within in
+      let many = (have lane below).cells.many in
       let cells : cells_after s n ≤ length (data_of k s h lane) = omega arith in
       let long = length-octets s.link.params (data_of k s h lane) in
       let m : columns_after s n
@@ -156,61 +154,49 @@ module _ (k : LaneKind) (s : Plan) (h : History) (facts : KindFacts k s.link.par
   now-octets : (lane : ℕ) → lane < s.link.params.l
       → octets_in_ticks k s (current (with_next k s h)) lane
       ≡ take (columns_after s (gave + one)) (octets_came k s h lane)
-  unfolding gave one
   now-octets lane below =
       ap₂ (λ (n : ℕ) (es : List Entry). octets_given s.link.params n es) (gave-next k s h begun)
       (ap (k.entries s.link.params s.link.timing lane) (sym (took-stepped k s h lane begun)))
-      ∙ octets-given-are s.link.params (lead s.link.params)
-      (gives_in (session s h) + (if is_running (next k s h).stage then 1 else 0))
-      (came k s h lane) (have lane below).cells
+      ∙ octets-given-are s.link.params (lead s.link.params) (gave + one) (came k s h lane)
+      (have lane below).cells
 
   old-octets : (lane : ℕ) → lane < s.link.params.l
       → octets_in_ticks k s (session s h) lane
       ≡ take (columns_after s gave) (octets_came k s h lane)
-  unfolding gave octets_given
+  unfolding octets_given
   old-octets lane below =
       let has = have lane below in
       let g = has.grew in
       let old : List Entry =
       k.entries s.link.params s.link.timing lane (taken_in (session s h) lane) in
       ap (λ (es : List Entry). all_octets s.link.params (cells_in es))
-      (sym (take-append-le (gives_in (session s h)) old g.0 has.before)
-      ∙ ap (take (gives_in (session s h))) (sym g.1))
-      ∙ octets-given-are s.link.params (lead s.link.params) (gives_in (session s h))
-      (came k s h lane) has.cells
+      (sym (take-append-le gave old g.0 has.before) ∙ ap (take gave) (sym g.1))
+      ∙ octets-given-are s.link.params (lead s.link.params) gave (came k s h lane) has.cells
 
   pub columns-grid : columns_now k s (with_next k s h)
-      ≡ grid s.link.params.l (octets_came k s h)
-      (columns_after s
-      (gives_in (session s h) + (if is_running (next k s h).stage then 1 else 0)))
-  unfolding gave one
+      ≡ grid s.link.params.l (octets_came k s h) (columns_after s (gave + one))
   columns-grid =
       columns-are k s (with_next k s h)
       ∙ grid-is s.link.params.l (octets_in_ticks k s (current (with_next k s h)))
       (octets_came k s h) (columns_after s (gave + one)) some now-octets
-      (λ lane below. enough (gave + one) lane (omega arith) below)
+      (λ lane below. enough (gave + one) lane (have lane below).within below)
 
   pub kept-grid : columns_kept k s h
-      ≡ grid s.link.params.l (octets_came k s h) (columns_after s (gives_in (session s h)))
-  unfolding gave
+      ≡ grid s.link.params.l (octets_came k s h) (columns_after s gave)
   kept-grid =
       kept-are k s h
       ∙ grid-is s.link.params.l (octets_in_ticks k s (session s h)) (octets_came k s h)
       (columns_after s gave) some old-octets
-      (λ lane below. enough gave lane (omega arith) below)
+      (λ lane below. let within = (have lane below).within in enough gave lane (omega arith) below)
 
-  pub length-columns : length (columns_now k s (with_next k s h))
-      ≡ columns_after s (gives_in (session s h)
-      + (if is_running (next k s h).stage then 1 else 0))
+  pub length-columns : length (columns_now k s (with_next k s h)) ≡ columns_after s (gave + one)
   length-columns = ap length columns-grid ∙ length-grid s.link.params.l (octets_came k s h) _
 
-  pub length-kept : length (columns_kept k s h) ≡ columns_after s (gives_in (session s h))
+  pub length-kept : length (columns_kept k s h) ≡ columns_after s gave
   length-kept = ap length kept-grid ∙ length-grid s.link.params.l (octets_came k s h) _
 
-  -- a tick in which none is given
-  columns-same : (n : ℕ)
-      → gives_in (session s h) + (if is_running (next k s h).stage then 1 else 0) ≡ n
-      → cells_after s n ≡ cells_after s (gives_in (session s h))
+  -- a tick in which no cell is given
+  columns-same : (n : ℕ) → gave + one ≡ n → cells_after s n ≡ cells_after s gave
       → columns_now k s (with_next k s h) ≡ columns_kept k s h ++ []
   columns-same n are same =
       columns-grid
@@ -220,18 +206,17 @@ module _ (k : LaneKind) (s : Plan) (h : History) (facts : KindFacts k s.link.par
       ∙ sym kept-grid ∙ sym (append-nil (columns_kept k s h))
 
   -- a tick in which each lane gives a cell
-  columns-more : is_running (next k s h).stage ≡ true → lead s.link.params ≤ gives_in (session s h)
+  columns-more : is_running (next k s h).stage ≡ true → lead s.link.params ≤ gave
       → columns_now k s (with_next k s h) ≡ columns_kept k s h
       ++ octet_columns s.link.params (column k s h)
   columns-more runs late =
       let p = s.link.params in
-      let g : ℕ = gives_in (session s h) in
-      let one_more : g + (if is_running (next k s h).stage then 1 else 0) ≡ g + 1 = rw runs refl in
-      let next_one : cells_after s (g + 1) ≡ cells_after s g + 1 = omega arith in
+      let one_more : gave + one ≡ gave + 1 = rw runs refl in
+      let next_one : cells_after s (gave + 1) ≡ cells_after s gave + 1 = omega arith in
       columns-grid
       ∙ ap (λ (x : ℕ). grid p.l (octets_came k s h) (columns_after s x)) one_more
       ∙ ap (λ (x : ℕ). grid p.l (octets_came k s h) (octets_per_tick p * x)) next_one
-      ∙ grid-next p p.l (data_of k s h) (cells_after s g) (λ lane below.
+      ∙ grid-next p p.l (data_of k s h) (cells_after s gave) (λ lane below.
       let has = have lane below in
       let many = has.cells.many in
       let within = has.within in
@@ -241,27 +226,26 @@ module _ (k : LaneKind) (s : Plan) (h : History) (facts : KindFacts k s.link.par
   -- the columns of the session, with the tick
   pub columns-next : columns_now k s (with_next k s h)
       ≡ columns_kept k s h
-      ++ (if is_running (next k s h).stage && nat_le (lead s.link.params)
-      (gives_in (session s h)) then octet_columns s.link.params (column k s h) else [])
+      ++ (if is_running (next k s h).stage && nat_le (lead s.link.params) gave
+      then octet_columns s.link.params (column k s h) else [])
   columns-next =
       let p = s.link.params in
-      let g : ℕ = gives_in (session s h) in
       let runs : Bool = is_running (next k s h).stage in
       let with_new : Bool → Columns =
       λ b. columns_kept k s h ++ (if b then octet_columns p (column k s h) else []) in
       elim (cases_Bool runs) [
         | inr e ↦
-            columns-same g (rw e (omega arith)) refl
-            ∙ sym (ap (λ (b : Bool). with_new (b && nat_le (lead p) g)) e)
-        | inl e ↦ elim (cases_lt g (lead p)) [
+            columns-same gave (rw e (omega arith)) refl
+            ∙ sym (ap (λ (b : Bool). with_new (b && nat_le (lead p) gave)) e)
+        | inl e ↦ elim (cases_lt gave (lead p)) [
           | inl early ↦
-              columns-same (g + 1) (rw e refl) (omega arith)
-              ∙ sym (ap (λ (b : Bool). with_new (b && nat_le (lead p) g)) e
-              ∙ ap with_new (lt-leb (lead p) g early))
+              columns-same (gave + 1) (rw e refl) (omega arith)
+              ∙ sym (ap (λ (b : Bool). with_new (b && nat_le (lead p) gave)) e
+              ∙ ap with_new (lt-leb (lead p) gave early))
           | inr late ↦
               columns-more e late
-              ∙ sym (ap (λ (b : Bool). with_new (b && nat_le (lead p) g)) e
-              ∙ ap with_new (le-leb (lead p) g late))
+              ∙ sym (ap (λ (b : Bool). with_new (b && nat_le (lead p) gave)) e
+              ∙ ap with_new (le-leb (lead p) gave late))
         ]
       ]
 
@@ -274,28 +258,24 @@ module _ (k : LaneKind) (s : Plan) (h : History) (facts : KindFacts k s.link.par
       (sym (took-stepped k s h lane begun))
 
   -- in the alignment sequence nothing
-  pub gives-none : (lane : ℕ) → lane < s.link.params.l
-      → gives_in (session s h) < lead s.link.params
+  pub gives-none : (lane : ℕ) → lane < s.link.params.l → gave < lead s.link.params
       → given_by k s (λ l. lane_stepped k s h l) lane ≡ None
   gives-none lane below early =
-      ap (λ (es : List Entry). given (get_or es (gives_in (session s h)) Placed))
-      (stepped-entries lane)
-      ∙ (have lane below).cells.none (gives_in (session s h)) early
+      ap (λ (es : List Entry). given (get_or es gave Placed)) (stepped-entries lane)
+      ∙ (have lane below).cells.none gave early
 
   -- then a cell
   pub gives-some : (lane : ℕ) → lane < s.link.params.l → (next k s h).stage ≡ stage.Run
-      → lead s.link.params ≤ gives_in (session s h)
+      → lead s.link.params ≤ gave
       → given_by k s (λ l. lane_stepped k s h l) lane ≡ Some (cell_given k s h lane)
   gives-some lane below runs late =
-      let g : ℕ = gives_in (session s h) in
-      let one_more : g + (if is_running (next k s h).stage then 1 else 0) ≡ g + 1 = rw runs refl in
+      let one_more : gave + one ≡ gave + 1 = rw runs refl in
       let within = (have lane below).within in
-      ap (λ (es : List Entry). given (get_or es (gives_in (session s h)) Placed))
-      (stepped-entries lane)
-      ∙ (have lane below).cells.some (gives_in (session s h)) late (omega arith)
+      ap (λ (es : List Entry). given (get_or es gave Placed)) (stepped-entries lane)
+      ∙ (have lane below).cells.some gave late (omega arith)
 
   -- all lanes at once
-  pub all-give-none : gives_in (session s h) < lead s.link.params
+  pub all-give-none : gave < lead s.link.params
       → map (given_by k s (λ l. lane_stepped k s h l)) (lanes_of s) ≡ map (λ (c : LaneCell). None)
       (column k s h)
   all-give-none early =
@@ -303,8 +283,7 @@ module _ (k : LaneKind) (s : Plan) (h : History) (facts : KindFacts k s.link.par
       (λ lane below. gives-none lane (omega arith) early)
       ∙ sym (map-map (λ (c : LaneCell). None) (cell_given k s h) (lanes_of s))
 
-  pub all-give-some : (next k s h).stage ≡ stage.Run
-      → lead s.link.params ≤ gives_in (session s h)
+  pub all-give-some : (next k s h).stage ≡ stage.Run → lead s.link.params ≤ gave
       → map (given_by k s (λ l. lane_stepped k s h l)) (lanes_of s) ≡ map (λ c. Some c)
       (column k s h)
   all-give-some runs late =

@@ -15,7 +15,7 @@ use Rattle.link_params.specs.Numbers.{octets_per_tick}
 use Rattle.sample_map.specs.Frames.{words_of}
 use Rattle.bring_up.specs.Decisions.{is_running}
 use Rattle.scenario.specs.Plans.{Plan, numbers_from}
-use Rattle.link_model.proofs.ColumnHistory.{HaveDepth, LanesHave, came, columns-grid, columns_after, columns_kept, data_of, lanes-have, length-columns, length-kept, octets_came}
+use Rattle.link_model.proofs.ColumnHistory.{HaveDepth, LanesHave, came, columns-grid, columns_after, columns_kept, enough, lanes-have, length-columns, length-kept, octets_came}
 use Rattle.link_model.proofs.Depth.{depth-run}
 use Rattle.link_model.proofs.FactsOf.{facts-of}
 use Rattle.link_model.proofs.FrameCells.{frame-cells-grid}
@@ -23,7 +23,7 @@ use Rattle.link_model.proofs.KindFacts.{KindFacts, lead}
 use Rattle.link_model.proofs.LaneHistory.{HasHunt, has-hunt-run, session-goes-on, session-hunt}
 use Rattle.link_model.proofs.NextMoment.{delivered-next, lanes_of, next, with_next}
 use Rattle.link_model.proofs.NumberLists.{get_or-numbers, length-numbers, map-numbers}
-use Rattle.link_model.proofs.OctetColumns.{grid, length-octets, octets-given-are}
+use Rattle.link_model.proofs.OctetColumns.{grid, octets-given-are}
 use Rattle.link_model.proofs.RunTicks.{length-run}
 use Rattle.link_model.proofs.WholeFrames.{delivered-none, div-le, frame_at, whole-part}
 use Rattle.link_model.proofs.WindowFacts.{IsLegal, legal}
@@ -121,18 +121,6 @@ module _ (k : LaneKind) (s : Plan) (h : History) (facts : KindFacts k s.link.par
       get_or-map (came k s h) (lanes_of s) 0 0 [] (omega arith)
       ∙ ap (came k s h) (get_or-numbers s.link.params.l 0 0 0 some ∙ z)
 
-  -- each lane has that many octets
-  enough : (n lane : ℕ) → n ≤ length (came k s h lane) → lane < s.link.params.l
-      → columns_after s n ≤ length (octets_came k s h lane)
-  enough n lane few below =
-      let many = (have lane below).cells.many in
-      let cells : n - lead s.link.params ≤ length (data_of k s h lane) = omega arith in
-      let long = length-octets s.link.params (data_of k s h lane) in
-      let m : columns_after s n
-      ≤ octets_per_tick s.link.params * length (data_of k s h lane) =
-      mul-le-mul_left (octets_per_tick s.link.params) cells in
-      omega arith
-
   frames-count : (n : ℕ) → n ≤ length (came k s h 0)
       → frames_in s.link.params n (get_or (map (came k s h) (lanes_of s)) 0 [])
       ≡ columns_after s n / s.link.params.f
@@ -140,7 +128,7 @@ module _ (k : LaneKind) (s : Plan) (h : History) (facts : KindFacts k s.link.par
       let e = octets-given-are s.link.params (lead s.link.params) n (came k s h 0)
       (have 0 some).cells in
       let taken = length-take (columns_after s n) (octets_came k s h 0) in
-      let many = enough n 0 within some in
+      let many = enough k s h facts legal some begun kept n 0 within some in
       let all : length (octets_given s.link.params n (came k s h 0)) ≡ columns_after s n =
       ap length e ∙ (let f : length (take (columns_after s n) (octets_came k s h 0))
       ≡ columns_after s n = omega arith in f) in
@@ -183,7 +171,8 @@ module _ (k : LaneKind) (s : Plan) (h : History) (facts : KindFacts k s.link.par
         let g : ℕ = gives_in (session s h) in
         ap (frame_cells p q) (given-octets (g + 1))
         ∙ frame-cells-grid p (octets_came k s h) (columns_after s (g + 1)) q octets_some whole
-        (λ lane below. enough (g + 1) lane (has-one lane below) below)
+        (λ lane below. enough k s h facts legal some begun kept (g + 1) lane (has-one lane below)
+        below)
         ∙ ap (λ (c : Columns). cells_of p c q p.f) (sym columns-run)
 
     frame-is : (q : ℕ) → q < columns_after s (gives_in (session s h) + 1) / s.link.params.f
