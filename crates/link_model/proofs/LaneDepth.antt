@@ -176,7 +176,8 @@ module _ (p : Params) (t : Timing) (legal : IsLegal p t) where
       })
 
   -- a tick more in a lane
-  module _ (kind : LaneKind) (facts : KindFacts kind p t) (lane : ℕ) (taken : List Taken) (w : Taken)
+  module _ (kind : LaneKind) (facts : KindFacts kind p t) (lane : ℕ) (taken : List Taken)
+      (w : Taken)
       (ticks : AreTicks (width p) taken) (size : length w.word ≡ width p)
       (armed_on : IsArmedOn taken w.order) where
     pub started : Option ℕ
