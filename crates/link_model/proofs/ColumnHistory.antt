@@ -1,275 +1,292 @@
--- What the lanes give in a tick in which they run, and the columns of a session with a tick more.
-use Rattle.std.proofs.Common.{◌≡◌, ℕ, suc, ◌+◌, ◌-◌, ◌*◌, ◌<◌, ◌≤◌, ◌&&◌, nat_le, Bool, if◌then◌else◌, List, [], ◌∷◌, ◌++◌, map, length, take, get_or, Some, None, inl, inr, refl, sym, ap, ap₂, ◌∙◌, append-nil, length-take, arith}
+-- What the lanes give in a tick in which they run, and the columns of octets of a session with a
+-- tick more.
+use Rattle.std.proofs.Common.{◌≡◌, ℕ, ◌+◌, ◌-◌, ◌*◌, ◌<◌, ◌≤◌, ◌&&◌, nat_le, Bool, true, if◌then◌else◌, List, [], ◌++◌, map, length, take, get_or, Some, None, inl, inr, refl, sym, ap, ap₂, ◌∙◌, append-nil, arith}
+use Rattle.std.proofs.Math.Nat.{mul-le-mul_left}
 use Rattle.std.proofs.lemmas.Bool.{cases_Bool, cases_lt, cond-true, cond-false, le-leb, lt-leb}
-use Rattle.std.proofs.lemmas.List.{get_or-take, map_push, take-append-le}
+use Rattle.std.proofs.lemmas.List.{take-append-le}
 use Rattle.std.proofs.lemmas.Simd.{map-map}
-use Rattle.link_params.specs.declared.fields.Mode.TheVariants.{B}
 use Rattle.link_params.specs.declared.cells.LaneCell.{LaneCell}
-use Rattle.link_params.specs.Lanes.{Entry, Placed, Taken}
-use Rattle.link_params.specs.Numbers.{period}
+use Rattle.link_params.specs.Lanes.{Entry, LaneKind, Placed, Taken}
+use Rattle.link_params.specs.Numbers.{octets_per_tick}
 use Rattle.bring_up.specs.declared.stage.Stage.TheVariants as stage
 use Rattle.bring_up.specs.Decisions.{is_running}
 use Rattle.lane_b.specs.Gives.{given}
-use Rattle.lane_b.specs.Received.{entries_b}
 use Rattle.scenario.specs.Plans.{Plan, numbers_from}
-use Rattle.lane_b.proofs.LaneEntries.{are-entries, entries-grow}
-use Rattle.link_model.proofs.Depth.{HasDepth, entries-more, gives-more, ready, tick-outcome, word-ten}
+use Rattle.link_model.proofs.Depth.{HasDepth, ready, tick-outcome, word-size}
 use Rattle.link_model.proofs.EntryCells.{HasCells, cells-of-entries}
-use Rattle.link_model.proofs.LaneHistory.{HasHunt, session-goes-on, session-hunt, took-stepped}
+use Rattle.link_model.proofs.KindFacts.{KindFacts, entries-grow, lead}
+use Rattle.link_model.proofs.LaneHistory.{HasHunt, gave-next, session-goes-on, session-hunt, took-stepped}
 use Rattle.link_model.proofs.NextMoment.{lanes_of, next, took, with_next}
-use Rattle.link_model.proofs.NumberLists.{map-numbers, numbers-more}
+use Rattle.link_model.proofs.NumberLists.{map-numbers}
+use Rattle.link_model.proofs.OctetColumns.{grid, grid-is, grid-next, length-grid, length-octets, octets-given-are, all_octets}
 use Rattle.link_model.proofs.WindowFacts.{IsLegal}
-use Rattle.link_model.specs.Before.{Columns, cells_now, columns_now, current, no_cell}
-use Rattle.link_model.specs.Gives.{cells_in, gives_in}
+use Rattle.link_model.specs.Before.{Columns, columns_now, current, no_cell, octet_columns}
+use Rattle.link_model.specs.Gives.{cells_in, gives_in, octets_given}
 use Rattle.link_model.specs.Hunts.{from_hunt, session}
 use Rattle.link_model.specs.LaneRuns.{given_by, lane_stepped}
 use Rattle.link_model.specs.Moments.{History}
 use Rattle.link_model.specs.Receives.{taken_in, told_of}
 
--- the data of a lane in the session, with the tick
-abbrev pub data_of : Plan → History → ℕ → List LaneCell
-data_of s h lane = cells_in (entries_b s.link.params s.link.timing lane (took s h lane))
+-- the entries of a lane in the session, with the tick
+abbrev pub came : LaneKind → Plan → History → ℕ → List Entry
+came k s h lane = k.entries s.link.params s.link.timing lane (took k s h lane)
 
--- how many columns there are after so many entries of each lane
+-- the data among them
+abbrev pub data_of : LaneKind → Plan → History → ℕ → List LaneCell
+data_of k s h lane = cells_in (came k s h lane)
+
+-- how many cells of data each lane gave after so many entries
+abbrev pub cells_after : Plan → ℕ → ℕ
+cells_after s n = n - lead s.link.params
+
+-- how many columns of octets there are then
 abbrev pub columns_after : Plan → ℕ → ℕ
-columns_after s n = n - 4 * period s.link.params
+columns_after s n = octets_per_tick s.link.params * cells_after s n
 
 -- the cell that a lane gives
-abbrev pub cell_given : Plan → History → ℕ → LaneCell
-cell_given s h lane = get_or (data_of s h lane) (columns_after s (gives_in (session s h))) no_cell
+abbrev pub cell_given : LaneKind → Plan → History → ℕ → LaneCell
+cell_given k s h lane =
+    get_or (data_of k s h lane) (cells_after s (gives_in (session s h))) no_cell
 
--- the column that the lanes give
-abbrev pub column : Plan → History → List LaneCell
-column s h = map (cell_given s h) (lanes_of s)
+-- the cells that the lanes give
+abbrev pub column : LaneKind → Plan → History → List LaneCell
+column k s h = map (cell_given k s h) (lanes_of s)
 
--- the first n columns of the data of l lanes
-abbrev pub grid : ℕ → (ℕ → List LaneCell) → ℕ → Columns
-grid l cells n = map (λ i. map (λ lane. get_or (cells lane) i no_cell) (numbers_from 0 l))
-    (numbers_from 0 n)
+-- all octets of a lane in the session, with the tick
+abbrev pub octets_came : LaneKind → Plan → History → ℕ → List LaneCell
+octets_came k s h lane = all_octets s.link.params (data_of k s h lane)
 
-grid-more : (l : ℕ) (cells : ℕ → List LaneCell) (n : ℕ) → grid l cells (suc n) ≡ grid l cells n
-    ++ map (λ lane. get_or (cells lane) n no_cell) (numbers_from 0 l) ∷ []
-grid-more l cells n =
-    let row : ℕ → List LaneCell = λ i. map (λ lane. get_or (cells lane) i no_cell)
-    (numbers_from 0 l) in
-    let last : 0 + n ≡ n = omega arith in
-    ap (map row) (numbers-more n 0) ∙ map_push row (numbers_from 0 n) (0 + n)
-    ∙ ap (λ (k : ℕ). map row (numbers_from 0 n) ++ row k ∷ []) last
+-- those that a lane gave in the ticks of a session
+abbrev octets_in_ticks : LaneKind → Plan → History → ℕ → List LaneCell
+octets_in_ticks k s past lane =
+    octets_given s.link.params (gives_in past)
+    (k.entries s.link.params s.link.timing lane (taken_in past lane))
 
--- columns of lanes that have the first n cells of this data
-grid-is : (l : ℕ) (cells all : ℕ → List LaneCell) (n : ℕ) → 0 < l
-    → ((lane : ℕ) → lane < l → cells lane ≡ take n (all lane))
-    → ((lane : ℕ) → lane < l → n ≤ length (all lane))
-    → map (λ i. map (λ lane. get_or (cells lane) i no_cell) (numbers_from 0 l))
-    (numbers_from 0 (length (cells 0))) ≡ grid l all n
-grid-is l cells all n some are enough =
-    let first = enough 0 some in
-    let taken = length-take n (all 0) in
-    let long : length (cells 0) ≡ n = ap length (are 0 some) ∙ omega arith in
-    ap (λ (k : ℕ). map (λ i. map (λ lane. get_or (cells lane) i no_cell) (numbers_from 0 l))
-    (numbers_from 0 k)) long
-    ∙ map-numbers (λ i. map (λ lane. get_or (cells lane) i no_cell) (numbers_from 0 l))
-    (λ i. map (λ lane. get_or (all lane) i no_cell) (numbers_from 0 l)) n 0
-    (λ i below. map-numbers (λ lane. get_or (cells lane) i no_cell)
-    (λ lane. get_or (all lane) i no_cell) l 0
-    (λ lane inside. ap (λ (cs : List LaneCell). get_or cs i no_cell) (are lane (omega arith))
-    ∙ get_or-take n (all lane) i no_cell (omega arith)))
+-- and the columns of all lanes
+abbrev columns_in : LaneKind → Plan → History → Columns
+columns_in k s past =
+    grid s.link.params.l (octets_in_ticks k s past) (length (octets_in_ticks k s past 0))
 
--- the columns of the ticks of a session
-abbrev columns_in : Plan → History → Columns
-columns_in s past =
-    map
-    (λ i.
-    map (λ lane. get_or
-    (cells_in
-    (take (gives_in past) (entries_b s.link.params s.link.timing lane (taken_in past lane)))) i
-    no_cell) (numbers_from 0 s.link.params.l))
-    (numbers_from 0
-    (length
-    (cells_in (take (gives_in past) (entries_b s.link.params s.link.timing 0 (taken_in past 0))))))
-
-columns-are : (s : Plan) (h : History) → columns_now s h ≡ columns_in s (current h)
+columns-are : (k : LaneKind) (s : Plan) (h : History)
+    → columns_now k s h ≡ columns_in k s (current h)
 unfolding columns_now
-columns-are s h = refl
+columns-are k s h = refl
 
-columns-none : (s : Plan) → columns_in s [] ≡ []
-unfolding cells_in numbers_from
-columns-none s = refl
+columns-none : (k : LaneKind) (s : Plan) → columns_in k s [] ≡ []
+unfolding octets_given cells_in numbers_from
+columns-none k s = refl
 
-pub columns-now-none : (s : Plan) → columns_now s [] ≡ []
+pub columns-now-none : (k : LaneKind) (s : Plan) → columns_now k s [] ≡ []
 unfolding from_hunt
-columns-now-none s = columns-are s [] ∙ columns-none s
+columns-now-none k s = columns-are k s [] ∙ columns-none k s
 
 -- those of the session to which the tick belongs
-abbrev pub columns_kept : Plan → History → Columns
-columns_kept s h = if (next s h).told.hunt then [] else columns_now s h
+abbrev pub columns_kept : LaneKind → Plan → History → Columns
+columns_kept k s h = if (next k s h).told.hunt then [] else columns_now k s h
 
-kept-are : (s : Plan) (h : History) → columns_kept s h ≡ columns_in s (session s h)
-kept-are s h = elim (cases_Bool (next s h).told.hunt) [
-  | inl e ↦ cond-true (next s h).told.hunt [] (columns_now s h) e
-      ∙ sym (ap (columns_in s) (session-hunt s h e) ∙ columns-none s)
-  | inr e ↦ cond-false (next s h).told.hunt [] (columns_now s h) e ∙ columns-are s h
-      ∙ sym (ap (columns_in s) (session-goes-on s h e))
+kept-are : (k : LaneKind) (s : Plan) (h : History)
+    → columns_kept k s h ≡ columns_in k s (session s h)
+kept-are k s h = elim (cases_Bool (next k s h).told.hunt) [
+  | inl e ↦ cond-true (next k s h).told.hunt [] (columns_now k s h) e
+      ∙ sym (ap (columns_in k s) (session-hunt k s h e) ∙ columns-none k s)
+  | inr e ↦ cond-false (next k s h).told.hunt [] (columns_now k s h) e ∙ columns-are k s h
+      ∙ sym (ap (columns_in k s) (session-goes-on k s h e))
 ]
 
--- each lane of a run has what the ticks before left
-abbrev pub HaveDepth : Plan → History → Type 0
-HaveDepth s h = (lane : ℕ) → lane < s.link.params.l → HasDepth s h lane
+-- what a lane of a run has in a tick: places of the alignment sequence and then data, as many
+-- entries as the lanes give, those before the tick first
+pub record LaneHas (k : LaneKind) (s : Plan) (h : History) (lane : ℕ) : Type 0 where
+  pub cells : HasCells (lead s.link.params) (came k s h lane)
+  pub within : gives_in (session s h) + (if is_running (next k s h).stage then 1 else 0)
+      ≤ length (came k s h lane)
+  pub before : gives_in (session s h)
+      ≤ length (k.entries s.link.params s.link.timing lane (taken_in (session s h) lane))
+  pub grew : (new : List Entry)
+      × (came k s h lane
+      ≡ k.entries s.link.params s.link.timing lane (taken_in (session s h) lane) ++ new)
 
-module _ (s : Plan) (h : History) (mode : s.link.params.mode ≡ B)
+abbrev pub LanesHave : LaneKind → Plan → History → Type 0
+LanesHave k s h = (lane : ℕ) → lane < s.link.params.l → LaneHas k s h lane
+
+-- each lane of a run has what the ticks before left
+abbrev pub HaveDepth : LaneKind → Plan → History → Type 0
+HaveDepth k s h = (lane : ℕ) → lane < s.link.params.l → HasDepth k s h lane
+
+pub lanes-have : (k : LaneKind) (s : Plan) (h : History)
+    → KindFacts k s.link.params s.link.timing → IsLegal s.link.params s.link.timing
+    → HaveDepth k s h → LanesHave k s h
+lanes-have k s h facts legal kept lane below =
+    let r = ready k s h lane facts legal (kept lane below) in
+    let w : Taken = record { order = told_of s h; word = get_or (next k s h).taken lane [] } in
+    record {
+      cells = cells-of-entries s.link.params (came k s h lane) (facts.are lane (took k s h lane));
+      within = (tick-outcome k s h lane facts legal below (kept lane below)).within;
+      before = r.within;
+      grew = entries-grow k s.link.params s.link.timing facts lane (taken_in (session s h) lane) w
+          r.ticks (word-size k s h lane below) r.on;
+    }
+
+module _ (k : LaneKind) (s : Plan) (h : History) (facts : KindFacts k s.link.params s.link.timing)
     (legal : IsLegal s.link.params s.link.timing) (some : 0 < s.link.params.l)
-    (begun : HasHunt h) (kept : HaveDepth s h) where
-  gave : ℕ
+    (begun : HasHunt h) (kept : HaveDepth k s h) where
+  have : LanesHave k s h
+  have = lanes-have k s h facts legal kept
+
+  -- the entries that each lane gave before the tick, and how many each gives in it
+  abbrev gave : ℕ
   gave = gives_in (session s h)
 
-  pub one : ℕ
-  one = if is_running (next s h).stage then 1 else 0
+  abbrev one : ℕ
+  one = if is_running (next k s h).stage then 1 else 0
 
-  pub has-cells : (lane : ℕ)
-      → HasCells s.link.params (entries_b s.link.params s.link.timing lane (took s h lane))
-  has-cells lane =
-      cells-of-entries s.link.params _
-      (are-entries s.link.params s.link.timing lane (took s h lane))
-
-  within-now : (lane : ℕ) → lane < s.link.params.l
-      → gave + one ≤ length (entries_b s.link.params s.link.timing lane (took s h lane))
-  unfolding gave one
-  within-now lane below = (tick-outcome s h lane mode legal below (kept lane below)).within
-
-  enough : (lane : ℕ) → lane < s.link.params.l
-      → columns_after s (gave + one) ≤ length (data_of s h lane)
-  enough lane below =
-      let many = (has-cells lane).many in
-      let within = within-now lane below in
+  -- each lane has as many octets as there are columns
+  pub enough : (n lane : ℕ) → n ≤ length (came k s h lane) → lane < s.link.params.l
+      → columns_after s n ≤ length (octets_came k s h lane)
+  enough n lane few below =
+      let many = (have lane below).cells.many in
+      let cells : cells_after s n ≤ length (data_of k s h lane) = omega arith in
+      let long = length-octets s.link.params (data_of k s h lane) in
+      let m : columns_after s n
+      ≤ octets_per_tick s.link.params * length (data_of k s h lane) =
+      mul-le-mul_left (octets_per_tick s.link.params) cells in
       omega arith
 
-  now-cells : (lane : ℕ) → lane < s.link.params.l
-      → cells_now s (with_next s h) lane ≡ take (columns_after s (gave + one)) (data_of s h lane)
-  unfolding gave one
-  now-cells lane below =
-      ap₂ (λ (n : ℕ) (es : List Entry). cells_in (take n es)) (gives-more s h begun)
-      (entries-more s h lane begun)
-      ∙ (has-cells lane).cells
-      (gives_in (session s h) + (if is_running (next s h).stage then 1 else 0))
+  now-octets : (lane : ℕ) → lane < s.link.params.l
+      → octets_in_ticks k s (current (with_next k s h)) lane
+      ≡ take (columns_after s (gave + one)) (octets_came k s h lane)
+  now-octets lane below =
+      ap₂ (λ (n : ℕ) (es : List Entry). octets_given s.link.params n es) (gave-next k s h begun)
+      (ap (k.entries s.link.params s.link.timing lane) (sym (took-stepped k s h lane begun)))
+      ∙ octets-given-are s.link.params (lead s.link.params) (gave + one) (came k s h lane)
+      (have lane below).cells
 
-  old-cells : (lane : ℕ) → lane < s.link.params.l
-      → cells_in
-      (take (gives_in (session s h))
-      (entries_b s.link.params s.link.timing lane (taken_in (session s h) lane)))
-      ≡ take (columns_after s gave) (data_of s h lane)
-  unfolding gave
-  old-cells lane below =
-      let r = ready s h lane legal (kept lane below) in
-      let w : Taken = record { order = told_of s h; word = get_or (next s h).taken lane [] } in
-      let g = entries-grow s.link.params s.link.timing lane (taken_in (session s h) lane) w r.tens
-      (word-ten s h lane mode below) in
-      let before : List Entry = entries_b s.link.params s.link.timing lane
-      (taken_in (session s h) lane) in
-      ap cells_in (sym (take-append-le (gives_in (session s h)) before g.0 r.within))
-      ∙ ap (λ (es : List Entry). cells_in (take (gives_in (session s h)) es)) (sym g.1)
-      ∙ (has-cells lane).cells (gives_in (session s h))
+  old-octets : (lane : ℕ) → lane < s.link.params.l
+      → octets_in_ticks k s (session s h) lane
+      ≡ take (columns_after s gave) (octets_came k s h lane)
+  unfolding octets_given
+  old-octets lane below =
+      let has = have lane below in
+      let g = has.grew in
+      let old : List Entry =
+      k.entries s.link.params s.link.timing lane (taken_in (session s h) lane) in
+      ap (λ (es : List Entry). all_octets s.link.params (cells_in es))
+      (sym (take-append-le gave old g.0 has.before) ∙ ap (take gave) (sym g.1))
+      ∙ octets-given-are s.link.params (lead s.link.params) gave (came k s h lane) has.cells
 
-  pub columns-grid : columns_now s (with_next s h)
-      ≡ grid s.link.params.l (data_of s h)
-      (columns_after s
-      (gives_in (session s h) + (if is_running (next s h).stage then 1 else 0)))
-  unfolding columns_now gave one
-  columns-grid = grid-is s.link.params.l (cells_now s (with_next s h)) (data_of s h)
-      (columns_after s (gave + one)) some now-cells enough
+  pub columns-grid : columns_now k s (with_next k s h)
+      ≡ grid s.link.params.l (octets_came k s h) (columns_after s (gave + one))
+  columns-grid =
+      columns-are k s (with_next k s h)
+      ∙ grid-is s.link.params.l (octets_in_ticks k s (current (with_next k s h)))
+      (octets_came k s h) (columns_after s (gave + one)) some now-octets
+      (λ lane below. enough (gave + one) lane (have lane below).within below)
 
-  kept-grid : columns_kept s h ≡ grid s.link.params.l (data_of s h) (columns_after s gave)
+  pub kept-grid : columns_kept k s h
+      ≡ grid s.link.params.l (octets_came k s h) (columns_after s gave)
   kept-grid =
-      kept-are s h
-      ∙ grid-is s.link.params.l
-      (λ lane. cells_in
-      (take (gives_in (session s h))
-      (entries_b s.link.params s.link.timing lane (taken_in (session s h) lane)))) (data_of s h)
-      (columns_after s gave) some old-cells (λ lane below. let e = enough lane below in omega arith)
+      kept-are k s h
+      ∙ grid-is s.link.params.l (octets_in_ticks k s (session s h)) (octets_came k s h)
+      (columns_after s gave) some old-octets
+      (λ lane below. let within = (have lane below).within in enough gave lane (omega arith) below)
+
+  pub length-columns : length (columns_now k s (with_next k s h)) ≡ columns_after s (gave + one)
+  length-columns = ap length columns-grid ∙ length-grid s.link.params.l (octets_came k s h) _
+
+  pub length-kept : length (columns_kept k s h) ≡ columns_after s gave
+  length-kept = ap length kept-grid ∙ length-grid s.link.params.l (octets_came k s h) _
+
+  -- a tick in which no cell is given
+  columns-same : (n : ℕ) → gave + one ≡ n → cells_after s n ≡ cells_after s gave
+      → columns_now k s (with_next k s h) ≡ columns_kept k s h ++ []
+  columns-same n are same =
+      columns-grid
+      ∙ ap (λ (x : ℕ). grid s.link.params.l (octets_came k s h) (columns_after s x)) are
+      ∙ ap (λ (x : ℕ). grid s.link.params.l (octets_came k s h)
+      (octets_per_tick s.link.params * x)) same
+      ∙ sym kept-grid ∙ sym (append-nil (columns_kept k s h))
+
+  -- a tick in which each lane gives a cell
+  columns-more : is_running (next k s h).stage ≡ true → lead s.link.params ≤ gave
+      → columns_now k s (with_next k s h) ≡ columns_kept k s h
+      ++ octet_columns s.link.params (column k s h)
+  columns-more runs late =
+      let p = s.link.params in
+      let one_more : gave + one ≡ gave + 1 = rw runs refl in
+      let next_one : cells_after s (gave + 1) ≡ cells_after s gave + 1 = omega arith in
+      columns-grid
+      ∙ ap (λ (x : ℕ). grid p.l (octets_came k s h) (columns_after s x)) one_more
+      ∙ ap (λ (x : ℕ). grid p.l (octets_came k s h) (octets_per_tick p * x)) next_one
+      ∙ grid-next p p.l (data_of k s h) (cells_after s gave) (λ lane below.
+      let has = have lane below in
+      let many = has.cells.many in
+      let within = has.within in
+      omega arith)
+      ∙ ap (λ (c : Columns). c ++ octet_columns p (column k s h)) (sym kept-grid)
 
   -- the columns of the session, with the tick
-  pub columns-next : columns_now s (with_next s h)
-      ≡ columns_kept s h
-      ++ (if is_running (next s h).stage && nat_le (4 * period s.link.params)
-      (gives_in (session s h)) then column s h ∷ [] else [])
-  unfolding gave one
+  pub columns-next : columns_now k s (with_next k s h)
+      ≡ columns_kept k s h
+      ++ (if is_running (next k s h).stage && nat_le (lead s.link.params) gave
+      then octet_columns s.link.params (column k s h) else [])
   columns-next =
-      let k : ℕ = columns_after s (gives_in (session s h)) in
-      elim (cases_Bool (is_running (next s h).stage)) [
+      let p = s.link.params in
+      let runs : Bool = is_running (next k s h).stage in
+      let with_new : Bool → Columns =
+      λ b. columns_kept k s h ++ (if b then octet_columns p (column k s h) else []) in
+      elim (cases_Bool runs) [
         | inr e ↦
-            let still : gives_in (session s h) + (if is_running (next s h).stage then 1 else 0)
-            ≡ gives_in (session s h) = rw e (omega arith) in
-            columns-grid ∙ ap (λ (n : ℕ). grid s.link.params.l (data_of s h) (columns_after s n))
-            still ∙ sym kept-grid ∙ sym (append-nil (columns_kept s h))
-            ∙ sym
-            (ap (λ (b : Bool). columns_kept s h
-            ++ (if b && nat_le (4 * period s.link.params) (gives_in (session s h)) then column s h
-            ∷ [] else [])) e)
-        | inl e ↦
-            let more : gives_in (session s h) + (if is_running (next s h).stage then 1 else 0)
-            ≡ suc (gives_in (session s h)) = rw e (omega arith) in
-            columns-grid ∙ ap (λ (n : ℕ). grid s.link.params.l (data_of s h) (columns_after s n))
-            more
-            ∙ (elim (cases_lt (gives_in (session s h)) (4 * period s.link.params)) [
-              | inl early ↦
-                  let still : columns_after s (suc (gives_in (session s h))) ≡ k = omega arith in
-                  ap (grid s.link.params.l (data_of s h)) still ∙ sym kept-grid
-                  ∙ sym (append-nil (columns_kept s h))
-                  ∙ sym (ap (λ (b : Bool). columns_kept s h ++ (if b then column s h ∷ [] else []))
-                  (lt-leb (4 * period s.link.params) (gives_in (session s h)) early))
-              | inr late ↦
-                  let next_one : columns_after s (suc (gives_in (session s h))) ≡ suc k =
-                  omega arith in
-                  ap (grid s.link.params.l (data_of s h)) next_one
-                  ∙ grid-more s.link.params.l (data_of s h) k
-                  ∙ ap (λ (c : Columns). c ++ column s h ∷ []) (sym kept-grid)
-                  ∙ sym (ap (λ (b : Bool). columns_kept s h ++ (if b then column s h ∷ [] else []))
-                  (le-leb (4 * period s.link.params) (gives_in (session s h)) late))
-            ])
-            ∙ sym
-            (ap (λ (b : Bool). columns_kept s h
-            ++ (if b && nat_le (4 * period s.link.params) (gives_in (session s h)) then column s h
-            ∷ [] else [])) e)
+            columns-same gave (rw e (omega arith)) refl
+            ∙ sym (ap (λ (b : Bool). with_new (b && nat_le (lead p) gave)) e)
+        | inl e ↦ elim (cases_lt gave (lead p)) [
+          | inl early ↦
+              columns-same (gave + 1) (rw e refl) (omega arith)
+              ∙ sym (ap (λ (b : Bool). with_new (b && nat_le (lead p) gave)) e
+              ∙ ap with_new (lt-leb (lead p) gave early))
+          | inr late ↦
+              columns-more e late
+              ∙ sym (ap (λ (b : Bool). with_new (b && nat_le (lead p) gave)) e
+              ∙ ap with_new (le-leb (lead p) gave late))
+        ]
       ]
 
   -- ---- what each lane gives
 
   stepped-entries : (lane : ℕ)
-      → entries_b s.link.params s.link.timing lane (lane_stepped s h lane).taken
-      ≡ entries_b s.link.params s.link.timing lane (took s h lane)
-  stepped-entries lane = ap (entries_b s.link.params s.link.timing lane)
-      (sym (took-stepped s h lane begun))
+      → k.entries s.link.params s.link.timing lane (lane_stepped k s h lane).taken
+      ≡ came k s h lane
+  stepped-entries lane = ap (k.entries s.link.params s.link.timing lane)
+      (sym (took-stepped k s h lane begun))
 
   -- in the alignment sequence nothing
-  pub gives-none : (lane : ℕ) → gives_in (session s h) < 4 * period s.link.params
-      → given_by s (λ l. lane_stepped s h l) lane ≡ None
-  gives-none lane early =
-      ap (λ (es : List Entry). given (get_or es (gives_in (session s h)) Placed))
-      (stepped-entries lane)
-      ∙ (has-cells lane).none (gives_in (session s h)) early
+  pub gives-none : (lane : ℕ) → lane < s.link.params.l → gave < lead s.link.params
+      → given_by k s (λ l. lane_stepped k s h l) lane ≡ None
+  gives-none lane below early =
+      ap (λ (es : List Entry). given (get_or es gave Placed)) (stepped-entries lane)
+      ∙ (have lane below).cells.none gave early
 
   -- then a cell
-  pub gives-some : (lane : ℕ) → lane < s.link.params.l → (next s h).stage ≡ stage.Run
-      → 4 * period s.link.params ≤ gives_in (session s h)
-      → given_by s (λ l. lane_stepped s h l) lane ≡ Some (cell_given s h lane)
+  pub gives-some : (lane : ℕ) → lane < s.link.params.l → (next k s h).stage ≡ stage.Run
+      → lead s.link.params ≤ gave
+      → given_by k s (λ l. lane_stepped k s h l) lane ≡ Some (cell_given k s h lane)
   gives-some lane below runs late =
-      ap (λ (es : List Entry). given (get_or es (gives_in (session s h)) Placed))
-      (stepped-entries lane)
-      ∙ (has-cells lane).some (gives_in (session s h)) late
-      ((tick-outcome s h lane mode legal below (kept lane below)).gives (ap is_running runs))
+      let one_more : gave + one ≡ gave + 1 = rw runs refl in
+      let within = (have lane below).within in
+      ap (λ (es : List Entry). given (get_or es gave Placed)) (stepped-entries lane)
+      ∙ (have lane below).cells.some gave late (omega arith)
 
   -- all lanes at once
-  pub all-give-none : gives_in (session s h) < 4 * period s.link.params
-      → map (given_by s (λ l. lane_stepped s h l)) (lanes_of s) ≡ map (λ (c : LaneCell). None)
-      (column s h)
+  pub all-give-none : gave < lead s.link.params
+      → map (given_by k s (λ l. lane_stepped k s h l)) (lanes_of s) ≡ map (λ (c : LaneCell). None)
+      (column k s h)
   all-give-none early =
-      map-numbers (given_by s (λ l. lane_stepped s h l)) (λ l. None) s.link.params.l 0
-      (λ lane below. gives-none lane early)
-      ∙ sym (map-map (λ (c : LaneCell). None) (cell_given s h) (lanes_of s))
+      map-numbers (given_by k s (λ l. lane_stepped k s h l)) (λ l. None) s.link.params.l 0
+      (λ lane below. gives-none lane (omega arith) early)
+      ∙ sym (map-map (λ (c : LaneCell). None) (cell_given k s h) (lanes_of s))
 
-  pub all-give-some : (next s h).stage ≡ stage.Run
-      → 4 * period s.link.params ≤ gives_in (session s h)
-      → map (given_by s (λ l. lane_stepped s h l)) (lanes_of s) ≡ map (λ c. Some c) (column s h)
+  pub all-give-some : (next k s h).stage ≡ stage.Run → lead s.link.params ≤ gave
+      → map (given_by k s (λ l. lane_stepped k s h l)) (lanes_of s) ≡ map (λ c. Some c)
+      (column k s h)
   all-give-some runs late =
-      map-numbers (given_by s (λ l. lane_stepped s h l)) (λ l. Some (cell_given s h l))
+      map-numbers (given_by k s (λ l. lane_stepped k s h l)) (λ l. Some (cell_given k s h l))
       s.link.params.l 0 (λ lane below. gives-some lane (omega arith) runs late)
-      ∙ sym (map-map (λ c. Some c) (cell_given s h) (lanes_of s))
+      ∙ sym (map-map (λ c. Some c) (cell_given k s h) (lanes_of s))

@@ -1,283 +1,298 @@
 -- The frames that leave in a tick, by the columns of the session.
-use Rattle.std.proofs.Common.{◌≡◌, ℕ, ◌+◌, ◌-◌, ◌*◌, ◌/◌, ◌%◌, ◌==◌, ◌<◌, ◌≤◌, ◌⊎◌, true, false, if◌then◌else◌, List, [], ◌∷◌, map, fold, length, take, get_or, inl, inr, refl, sym, ap, ap₂, ◌∙◌, length-take, ne_eqb, arith}
-use Rattle.std.proofs.Math.Nat.{mod-lt}
-use Rattle.std.proofs.lemmas.Bool.{cases_lt, cond-true, cond-false, eq-eqb}
-use Rattle.std.proofs.lemmas.List.{get_or-map, length-map}
-use Rattle.std.proofs.lemmas.Nat.{div-mul-add, mod-mul-add}
+use Rattle.std.proofs.Common.{◌≡◌, ℕ, suc, ◌+◌, ◌-◌, ◌*◌, ◌/◌, ◌<◌, ◌≤◌, Bool, true, false, if◌then◌else◌, List, [], ◌∷◌, map, length, take, get_or, Option, Some, None, inl, inr, refl, sym, ap, ap₂, ◌∙◌, length-take, unwrap_or, arith}
+use Rattle.std.proofs.Math.Nat.{mul-le-mul_left}
+use Rattle.std.proofs.lemmas.Bool.{cases_Bool, cases_lt, cond-true, cond-false}
+use Rattle.std.proofs.lemmas.List.{get_or-map}
+use Rattle.std.proofs.lemmas.List.Sums.{count_by-le-length}
 use Rattle.std.proofs.lemmas.Simd.{map-map}
 use Rattle.link_params.specs.declared.fields.Params.{Params}
-use Rattle.link_params.specs.declared.fields.Mode.TheVariants.{B}
 use Rattle.link_params.specs.declared.cells.LaneCell.{LaneCell}
-use Rattle.link_params.specs.declared.cells.Mark.TheVariants.{Ok as Good}
-use Rattle.link_params.specs.Laws.{is_b}
-use Rattle.link_params.specs.Lanes.{Entry, worse}
-use Rattle.link_params.specs.Numbers.{octets_per_tick, period}
+use Rattle.link_params.specs.Laws.{broken_law, is_b}
+use Rattle.link_params.specs.Lanes.{LaneKind}
+use Rattle.link_params.specs.TimingLaws.{broken_timing}
+use Rattle.link_params.proofs.LawFacts.{legal_sizes}
+use Rattle.link_params.specs.Numbers.{octets_per_tick}
 use Rattle.sample_map.specs.Frames.{words_of}
-use Rattle.bring_up.specs.declared.stage.Stage.TheVariants as stage
 use Rattle.bring_up.specs.Decisions.{is_running}
-use Rattle.lane_b.specs.Received.{entries_b}
 use Rattle.scenario.specs.Plans.{Plan, numbers_from}
-use Rattle.link_model.proofs.ColumnHistory.{HaveDepth, columns-grid, columns_after, data_of, grid, has-cells}
-use Rattle.link_model.proofs.Depth.{tick-outcome}
-use Rattle.link_model.proofs.FrameCells.{frame-cells-grid, marks-of-octets, octet, octets-given-b, values-of-octets}
-use Rattle.link_model.proofs.LaneHistory.{HasHunt}
-use Rattle.link_model.proofs.NextMoment.{delivered-next, lanes_of, next, took, with_next}
+use Rattle.link_model.proofs.ColumnHistory.{HaveDepth, LanesHave, came, columns-grid, columns_after, columns_kept, enough, lanes-have, length-columns, length-kept, octets_came}
+use Rattle.link_model.proofs.Depth.{depth-run}
+use Rattle.link_model.proofs.FactsOf.{facts-of}
+use Rattle.link_model.proofs.FrameCells.{frame-cells-grid}
+use Rattle.link_model.proofs.KindFacts.{KindFacts, lead}
+use Rattle.link_model.proofs.LaneHistory.{HasHunt, has-hunt-run, session-goes-on, session-hunt}
+use Rattle.link_model.proofs.NextMoment.{delivered-next, lanes_of, next, with_next}
 use Rattle.link_model.proofs.NumberLists.{get_or-numbers, length-numbers, map-numbers}
-use Rattle.link_model.proofs.WindowFacts.{IsLegal}
-use Rattle.link_model.specs.Before.{Columns, cells_of, columns_now, mark_of, octets_of}
+use Rattle.link_model.proofs.OctetColumns.{grid, octets-given-are}
+use Rattle.link_model.proofs.RunTicks.{length-run}
+use Rattle.link_model.proofs.WholeFrames.{delivered-none, div-le, frame_at, whole-part}
+use Rattle.link_model.proofs.WindowFacts.{IsLegal, legal}
+use Rattle.link_model.specs.Before.{Columns, cells_of, columns_now, current, delivered_at, mark_of, values_of}
 use Rattle.link_model.specs.Gives.{frame_cells, frame_given, frames_given, frames_in, gives_in, octets_given}
-use Rattle.link_model.specs.Hunts.{session}
-use Rattle.link_model.specs.Moments.{Delivered, History}
+use Rattle.link_model.specs.Hunts.{from_hunt, or_else, session}
+use Rattle.link_model.specs.Kinds.{kind_of, moment_of, run_of}
+use Rattle.link_model.specs.Moments.{Delivered, History, Moment}
+use Rattle.link_model.specs.Run.{run}
 
--- frame q of these columns; from: the octet time of frame 0
-abbrev pub frame_at : Params → ℕ → Columns → ℕ → Delivered
-frame_at p from columns q =
-    record {
-      left = from + q * p.f;
-      mark = mark_of (cells_of p columns q p.f);
-      words =
-          words_of p (octets_of (cells_of p columns q p.f));
-    }
+-- ---- the session is a part of the history
 
--- one number more is a multiple, or its quotient stays
-next-number : (n f : ℕ) → 0 < f → (((n + 1) % f ≡ 0) × ((n + 1) / f ≡ n / f + 1))
-    ⊎ (((n + 1) % f ≡ n % f + 1) × ((n + 1) / f ≡ n / f))
-next-number n f some =
-    let small = mod-lt n some in
-    let parts : f * (n / f) + n % f ≡ n = omega arith in
-    elim (cases_lt (n % f + 1) f) [
-      | inl within ↦
-          let e : n + 1 ≡ n / f * f + (n % f + 1) = omega arith in
-          inr (
-            ap (λ x. x % f) e ∙ mod-mul-add (n / f) f (n % f + 1) within,
-            ap (λ x. x / f) e
-                ∙ div-mul-add (n / f) f (n % f + 1) within,
-          )
-      | inr whole ↦
-          let e : n + 1 ≡ (n / f + 1) * f + 0 = omega arith in
-          inl (
-            ap (λ x. x % f) e ∙ mod-mul-add (n / f + 1) f 0 some,
-            ap (λ x. x / f) e
-                ∙ div-mul-add (n / f + 1) f 0 some,
-          )
-    ]
+short-or : (o here : Option History) (n : ℕ) → length (unwrap_or o []) ≤ n
+    → length (unwrap_or here []) ≤ n → length (unwrap_or (or_else o here) []) ≤ n
+short-or (Some l) here n first then_here = first
+short-or None here n first then_here = then_here
 
-length-grid : (l : ℕ) (cells : ℕ → List LaneCell) (n : ℕ) → length (grid l cells n) ≡ n
-length-grid l cells n = length-map (numbers_from 0 n) _ ∙ length-numbers n 0
+short-if : (b : Bool) (l : History)
+    → length (unwrap_or (if b then Some l else None) []) ≤ length l
+short-if true l = omega arith
+short-if false l = omega arith
 
-frames-start : (p : Params) (r : ℕ) → p.mode ≡ B
-    → octets_per_tick p * r + (if is_b p.mode then 4 * period p else 0) ≡ r + 4 * period p
-frames-start p r mode =
-    let one : octets_per_tick p ≡ 1 = rw mode refl in
-    let b : (if is_b p.mode then 4 * period p else 0) ≡ 4 * period p =
-    cond-true (is_b p.mode) (4 * period p) 0 (rw mode refl) in
-    let e : 1 * r ≡ r = omega arith in
-    ap₂ (λ (a c : ℕ). a * r + c) one b ∙ ap (λ (a : ℕ). a + 4 * period p) e
+short-current : (h : History) → length (current h) ≤ length h
+unfolding from_hunt
+short-current [] = omega arith
+short-current (m ∷ h) =
+    let later : length (unwrap_or (from_hunt h) []) ≤ length h = short-current h in
+    short-or (from_hunt h) (if m.told.hunt then Some (m ∷ h) else None) (length (m ∷ h))
+    (omega arith) (short-if m.told.hunt (m ∷ h))
 
-module _ (s : Plan) (h : History) (mode : s.link.params.mode ≡ B)
+short-session : (k : LaneKind) (s : Plan) (h : History) → length (session s h) ≤ length h
+short-session k s h = elim (cases_Bool (next k s h).told.hunt) [
+  | inl e ↦ let none = ap length (session-hunt k s h e) in omega arith
+  | inr e ↦
+      let same = ap length (session-goes-on k s h e) in
+      let short = short-current h in
+      omega arith
+]
+
+-- a lane gives no more entries than there are ticks
+pub gave-within-ticks : (k : LaneKind) (s : Plan) (h : History)
+    → gives_in (session s h) ≤ length h
+gave-within-ticks k s h =
+    let count = count_by-le-length (λ (m : Moment). is_running m.stage) (session s h) in
+    let short = short-session k s h in
+    omega arith
+
+-- ---- the time of a frame
+
+lead-times : (p : Params) → octets_per_tick p * lead p ≡ lead p
+lead-times p = elim (cases_Bool (is_b p.mode)) [
+  | inl e ↦ rw e (omega arith)
+  | inr e ↦ rw e (omega arith)
+]
+
+-- from the octet time of frame 0, and back from the time after the last column; gave: the entries
+-- that each lane gave before the tick t
+left-is : (m first gave t n : ℕ) → m * first ≡ first → first ≤ gave → gave ≤ t
+    → m * (t - gave) + first + n ≡ m * (t + 1) + n - m * (gave + 1 - first)
+left-is m first gave t n times late within =
+    let x : ℕ = gave - first in
+    let y : ℕ = t - gave in
+    let given : gave + 1 - first ≡ x + 1 = omega arith in
+    let all : t + 1 ≡ y + first + (x + 1) = omega arith in
+    let end : m * (t + 1) ≡ m * y + m * first + m * (x + 1) =
+    ap (λ (k : ℕ). m * k) all
+    ∙ (let e : m * (y + first + (x + 1)) ≡ m * y + m * first + m * (x + 1) = omega arith in e) in
+    let columns : m * (gave + 1 - first) ≡ m * (x + 1) = ap (λ (k : ℕ). m * k) given in
+    omega arith
+
+one-at-most : (b : Bool) → (if b then 1 else 0) ≤ 1
+one-at-most true = omega arith
+one-at-most false = omega arith
+
+module _ (k : LaneKind) (s : Plan) (h : History) (facts : KindFacts k s.link.params s.link.timing)
     (legal : IsLegal s.link.params s.link.timing) (some : 0 < s.link.params.l)
-    (octets_some : 0 < s.link.params.f) (begun : HasHunt h) (kept : HaveDepth s h) where
-  came : ℕ → List Entry
-  came l = entries_b s.link.params s.link.timing l (took s h l)
+    (octets_some : 0 < s.link.params.f) (begun : HasHunt h) (kept : HaveDepth k s h) where
+  have : LanesHave k s h
+  have = lanes-have k s h facts legal kept
 
-  given-octets : (n : ℕ) → map (octets_given s.link.params n) (map came (lanes_of s))
-      ≡ map (λ l. map octet (take (columns_after s n) (data_of s h l))) (lanes_of s)
-  unfolding came
+  given-octets : (n : ℕ)
+      → map (octets_given s.link.params n) (map (came k s h) (lanes_of s))
+      ≡ map (λ l. take (columns_after s n) (octets_came k s h l)) (lanes_of s)
   given-octets n =
-      map-map (octets_given s.link.params n)
-      (λ l. entries_b s.link.params s.link.timing l (took s h l)) (lanes_of s)
-      ∙ map-numbers
-      (λ l. octets_given s.link.params n (entries_b s.link.params s.link.timing l (took s h l)))
-      (λ l. map octet (take (columns_after s n) (data_of s h l)))
-      s.link.params.l 0
-      (λ l below. octets-given-b s.link.params n
-      (entries_b s.link.params s.link.timing l (took s h l)) mode
-      (has-cells s h mode legal some begun kept l))
+      map-map (octets_given s.link.params n) (came k s h) (lanes_of s)
+      ∙ map-numbers (λ l. octets_given s.link.params n (came k s h l))
+      (λ l. take (columns_after s n) (octets_came k s h l)) s.link.params.l 0
+      (λ l below. octets-given-are s.link.params (lead s.link.params) n (came k s h l)
+      (have l (omega arith)).cells)
 
-  first-came : get_or (map came (lanes_of s)) 0 [] ≡ came 0
+  first-came : get_or (map (came k s h) (lanes_of s)) 0 [] ≡ came k s h 0
   first-came =
       let long = length-numbers s.link.params.l 0 in
       let z : 0 + 0 ≡ 0 = omega arith in
-      get_or-map came (lanes_of s) 0 0 [] (omega arith)
-      ∙ ap came (get_or-numbers s.link.params.l 0 0 0 some ∙ z)
+      get_or-map (came k s h) (lanes_of s) 0 0 [] (omega arith)
+      ∙ ap (came k s h) (get_or-numbers s.link.params.l 0 0 0 some ∙ z)
 
-  frames-count : (n : ℕ) → n ≤ length (came 0)
-      → frames_in s.link.params n (came 0) ≡ columns_after s n / s.link.params.f
-  unfolding came
+  frames-count : (n : ℕ) → n ≤ length (came k s h 0)
+      → frames_in s.link.params n (get_or (map (came k s h) (lanes_of s)) 0 [])
+      ≡ columns_after s n / s.link.params.f
   frames-count n within =
-      let shape = has-cells s h mode legal some begun kept 0 in
-      let many = shape.many in
-      let e = octets-given-b s.link.params n (entries_b s.link.params s.link.timing 0 (took s h 0))
-      mode shape in
-      let taken = length-take (columns_after s n) (data_of s h 0) in
-      let long = length-map (take (columns_after s n) (data_of s h 0)) octet in
-      let all : length
-      (octets_given s.link.params n (entries_b s.link.params s.link.timing 0 (took s h 0)))
-      ≡ columns_after s n = ap length e ∙ long ∙ omega arith in
-      ap (λ (k : ℕ). k / s.link.params.f) all
+      let e = octets-given-are s.link.params (lead s.link.params) n (came k s h 0)
+      (have 0 some).cells in
+      let taken = length-take (columns_after s n) (octets_came k s h 0) in
+      let many = enough k s h facts legal some begun kept n 0 within some in
+      let all : length (octets_given s.link.params n (came k s h 0)) ≡ columns_after s n =
+      ap length e ∙ (let f : length (take (columns_after s n) (octets_came k s h 0))
+      ≡ columns_after s n = omega arith in f) in
+      ap (frames_in s.link.params n) first-came ∙ ap (λ (x : ℕ). x / s.link.params.f) all
 
   -- while the lanes run
-  module _ (runs : (next s h).stage ≡ stage.Run) where
-    one-more : gives_in (session s h) + (if is_running (next s h).stage then 1 else 0)
+  module _ (runs : is_running (next k s h).stage ≡ true) where
+    one-more : gives_in (session s h) + (if is_running (next k s h).stage then 1 else 0)
         ≡ gives_in (session s h) + 1
     one-more = rw runs refl
 
-    columns-run : columns_now s (with_next s h) ≡ grid s.link.params.l (data_of s h)
-        (columns_after s (gives_in (session s h) + 1))
-    columns-run = columns-grid s h mode legal some begun kept
-        ∙ ap (λ (n : ℕ). grid s.link.params.l (data_of s h) (columns_after s n)) one-more
-
-    pub length-columns : length (columns_now s (with_next s h)) ≡ columns_after s
-        (gives_in (session s h) + 1)
-    length-columns = ap length columns-run ∙ length-grid s.link.params.l (data_of s h)
-        (columns_after s (gives_in (session s h) + 1))
-
-    has-one : (lane : ℕ) → lane < s.link.params.l → gives_in (session s h) < length (came lane)
-    unfolding came
-    has-one lane below = (tick-outcome s h lane mode legal below (kept lane below)).gives
-        (ap is_running runs)
-
-    enough : (lane : ℕ) → lane < s.link.params.l
-        → columns_after s (gives_in (session s h) + 1) ≤ length (data_of s h lane)
-    unfolding came
-    enough lane below =
-        let many = (has-cells s h mode legal some begun kept lane).many in
-        let one = has-one lane below in
+    has-one : (lane : ℕ) → lane < s.link.params.l
+        → gives_in (session s h) + 1 ≤ length (came k s h lane)
+    has-one lane below =
+        let within = (have lane below).within in
+        let one = one-more in
         omega arith
 
-    frame-is : (from q : ℕ)
-        → q * s.link.params.f + s.link.params.f ≤ columns_after s (gives_in (session s h) + 1)
-        → frame_given s.link.params from
-        (map (octets_given s.link.params (gives_in (session s h) + 1)) (map came (lanes_of s))) q
-        ≡ frame_at s.link.params from (columns_now s (with_next s h)) q
-    frame-is from q whole =
-        let p = s.link.params in
-        let n : ℕ = columns_after s (gives_in (session s h) + 1) in
-        let cs : List LaneCell = cells_of p (columns_now s (with_next s h)) q p.f in
-        let cells : frame_cells p q
-        (map (octets_given p (gives_in (session s h) + 1)) (map came (lanes_of s)))
-        ≡ map octet cs =
-        ap (frame_cells p q) (given-octets (gives_in (session s h) + 1))
-        ∙ frame-cells-grid p (data_of s h) n q octets_some whole enough
-        ∙ ap (λ (c : Columns). map octet (cells_of p c q p.f)) (sym columns-run) in
-        ap (λ (xs : List LaneCell). let d : Delivered =
-        record {
-          left = from + q * p.f;
-          mark = fold worse Good (map (λ c. c.mark) xs);
-          words =
-              words_of p (map (λ c. c.value) xs);
-        } in d) cells
-        ∙ ap₂ (λ xs ys. let d : Delivered =
-        record { left = from + q * p.f; mark = fold worse Good xs; words = words_of p ys } in d)
-        (marks-of-octets cs) (values-of-octets cs)
+    long-now : length (columns_now k s (with_next k s h)) ≡ columns_after s
+        (gives_in (session s h) + 1)
+    long-now = length-columns k s h facts legal some begun kept ∙ ap (columns_after s) one-more
 
-    frames-are : (r : ℕ)
-        → frames_given s.link.params r (gives_in (session s h)) (map came (lanes_of s))
-        ≡ map (frame_given s.link.params (r + 4 * period s.link.params)
-        (map (octets_given s.link.params (gives_in (session s h) + 1)) (map came (lanes_of s))))
-        (numbers_from (columns_after s (gives_in (session s h)) / s.link.params.f)
-        (columns_after s (gives_in (session s h) + 1) / s.link.params.f - columns_after s
-        (gives_in (session s h)) / s.link.params.f))
+    columns-run : columns_now k s (with_next k s h) ≡ grid s.link.params.l (octets_came k s h)
+        (columns_after s (gives_in (session s h) + 1))
+    columns-run = columns-grid k s h facts legal some begun kept
+        ∙ ap (λ (n : ℕ). grid s.link.params.l (octets_came k s h) (columns_after s n)) one-more
+
+    -- the octets of all lanes once this tick's are given
+    abbrev octets_then : List (List LaneCell)
+    octets_then = map (octets_given s.link.params (gives_in (session s h) + 1))
+        (map (came k s h) (lanes_of s))
+
+    cells-are : (q : ℕ)
+        → q * s.link.params.f + s.link.params.f
+        ≤ columns_after s (gives_in (session s h) + 1)
+        → frame_cells s.link.params q octets_then
+        ≡ cells_of s.link.params (columns_now k s (with_next k s h)) q s.link.params.f
+    cells-are q whole =
+        let p = s.link.params in
+        let g : ℕ = gives_in (session s h) in
+        ap (frame_cells p q) (given-octets (g + 1))
+        ∙ frame-cells-grid p (octets_came k s h) (columns_after s (g + 1)) q octets_some whole
+        (λ lane below. enough k s h facts legal some begun kept (g + 1) lane (has-one lane below)
+        below)
+        ∙ ap (λ (c : Columns). cells_of p c q p.f) (sym columns-run)
+
+    frame-is : (q : ℕ) → q < columns_after s (gives_in (session s h) + 1) / s.link.params.f
+        → frame_given s.link.params
+        (octets_per_tick s.link.params * (length h - gives_in (session s h))
+        + lead s.link.params) octets_then q
+        ≡ frame_at s.link.params (octets_per_tick s.link.params * (length h + 1))
+        (columns_now k s (with_next k s h)) q
+    frame-is q below =
+        let p = s.link.params in
+        let m : ℕ = octets_per_tick p in
+        let g : ℕ = gives_in (session s h) in
+        let n : ℕ = columns_after s (g + 1) in
+        let whole = whole-part n p.f q octets_some below in
+        let late : lead p ≤ g = elim (cases_lt g (lead p)) [
+          | inr low ↦ low
+          | inl early ↦
+              let none : g + 1 - lead p ≡ 0 = omega arith in
+              let empty : n ≡ m * 0 = ap (λ (x : ℕ). m * x) none in
+              let zero_columns : m * 0 ≡ 0 = omega arith in
+              absurd (omega arith)
+        ] in
+        let times = left-is m (lead p) g (length h) (q * p.f) (lead-times p) late
+        (gave-within-ticks k s h) in
+        ap₂ (λ (at : ℕ) (xs : List LaneCell). let d : Delivered =
+        record { left = at; mark = mark_of xs; words = words_of p (values_of xs) } in d)
+        (times ∙ ap (λ (x : ℕ). m * (length h + 1) + q * p.f - x) (sym long-now))
+        (cells-are q whole)
+
+    frames-are : frames_given s.link.params (length h - gives_in (session s h))
+        (gives_in (session s h)) (map (came k s h) (lanes_of s))
+        ≡ delivered_at s.link.params (octets_per_tick s.link.params * (length h + 1))
+        (length (columns_kept k s h)) (columns_now k s (with_next k s h))
     unfolding frames_given
-    frames-are r =
+    frames-are =
         let p = s.link.params in
         let g : ℕ = gives_in (session s h) in
-        let octets : List (List LaneCell) = map (octets_given p (g + 1)) (map came (lanes_of s)) in
+        let columns : Columns = columns_now k s (with_next k s h) in
         let one = has-one 0 some in
-        let before : frames_in p g (get_or (map came (lanes_of s)) 0 []) ≡ columns_after s g / p.f =
-        ap (frames_in p g) first-came ∙ frames-count g (omega arith) in
-        let now : frames_in p (g + 1) (get_or (map came (lanes_of s)) 0 []) ≡ columns_after s
-        (g + 1) / p.f = ap (frames_in p (g + 1)) first-came
-        ∙ frames-count (g + 1) (omega arith) in
-        ap₂
-        (λ (a b : ℕ).
-        map (frame_given p (octets_per_tick p * r + (if is_b p.mode then 4 * period p else 0))
-        octets) (numbers_from a (b - a))) before now
-        ∙ ap (λ (from : ℕ). map (frame_given p from octets)
-        (numbers_from (columns_after s g / p.f)
-        (columns_after s (g + 1) / p.f - columns_after s g / p.f))) (frames-start p r mode)
+        let end : ℕ = octets_per_tick p * (length h + 1) in
+        let a : ℕ = columns_after s g / p.f in
+        let b : ℕ = columns_after s (g + 1) / p.f in
+        let cells : g - lead p ≤ g + 1 - lead p = omega arith in
+        let up : a ≤ b = div-le (columns_after s g) (columns_after s (g + 1)) p.f octets_some
+        (mul-le-mul_left (octets_per_tick p) cells) in
+        let given : ℕ → Delivered =
+        frame_given p (octets_per_tick p * (length h - g) + lead p) octets_then in
+        ap₂ (λ (a b : ℕ). map given (numbers_from a (b - a)))
+        (frames-count g (omega arith)) (frames-count (g + 1) one)
+        ∙ map-numbers given (frame_at p end columns) (b - a) a
+        (λ q below. frame-is q (omega arith))
+        ∙ ap₂ (λ (a b : ℕ). map (frame_at p end columns)
+        (numbers_from (a / p.f) (b / p.f - a / p.f)))
+        (sym (length-kept k s h facts legal some begun kept)) (sym long-now)
 
-    delivered-are : (next s h).delivered ≡ frames_given s.link.params
-        (length h - gives_in (session s h)) (gives_in (session s h)) (map came (lanes_of s))
-    unfolding came
-    delivered-are =
-        delivered-next s h
-        ∙ cond-true (is_running (next s h).stage)
-        (frames_given s.link.params (length h - gives_in (session s h)) (gives_in (session s h))
-        (map (λ l. entries_b s.link.params s.link.timing l (took s h l)) (lanes_of s))) []
-        (ap is_running runs)
+  -- the frames that leave in the tick
+  pub delivered-columns : (next k s h).delivered
+      ≡ delivered_at s.link.params (octets_per_tick s.link.params * (length h + 1))
+      (length (columns_kept k s h)) (columns_now k s (with_next k s h))
+  delivered-columns =
+      let p = s.link.params in
+      let g : ℕ = gives_in (session s h) in
+      let columns : Columns = columns_now k s (with_next k s h) in
+      let end : ℕ = octets_per_tick p * (length h + 1) in
+      let given : List Delivered =
+      frames_given p (length h - g) g (map (came k s h) (lanes_of s)) in
+      elim (cases_Bool (is_running (next k s h).stage)) [
+        | inl runs ↦
+            delivered-next k s h ∙ cond-true (is_running (next k s h).stage) given [] runs
+            ∙ frames-are runs
+        | inr still ↦
+            let none : g + (if is_running (next k s h).stage then 1 else 0) ≡ g =
+            rw still (omega arith) in
+            let same : length columns ≡ length (columns_kept k s h) =
+            length-columns k s h facts legal some begun kept ∙ ap (columns_after s) none
+            ∙ sym (length-kept k s h facts legal some begun kept) in
+            delivered-next k s h ∙ cond-false (is_running (next k s h).stage) given [] still
+            ∙ sym (delivered-none p end (length (columns_kept k s h)) columns same)
+      ]
 
-    no-numbers : (f : ℕ → Delivered) (a n : ℕ) → n ≡ 0 → map f (numbers_from a n) ≡ []
-    unfolding numbers_from
-    no-numbers f a n e = rw e refl
+  -- in the alignment sequence none leaves
+  pub delivered-early : gives_in (session s h) < lead s.link.params → (next k s h).delivered ≡ []
+  delivered-early early =
+      let p = s.link.params in
+      let g : ℕ = gives_in (session s h) in
+      let one : ℕ = if is_running (next k s h).stage then 1 else 0 in
+      let few : one ≤ 1 = one-at-most (is_running (next k s h).stage) in
+      let same : g + one - lead p ≡ g - lead p = omega arith in
+      delivered-columns
+      ∙ delivered-none p (octets_per_tick p * (length h + 1)) (length (columns_kept k s h))
+      (columns_now k s (with_next k s h))
+      (length-columns k s h facts legal some begun kept
+      ∙ ap (λ (n : ℕ). octets_per_tick p * n) same
+      ∙ sym (length-kept k s h facts legal some begun kept))
 
-    one-number : (f : ℕ → Delivered) (a n : ℕ) → n ≡ 1 → map f (numbers_from a n) ≡ f a ∷ []
-    unfolding numbers_from
-    one-number f a n e = rw e refl
-
-    -- in the alignment sequence none leaves
-    pub delivered-early : gives_in (session s h) < 4 * period s.link.params
-        → (next s h).delivered ≡ []
-    delivered-early early =
-        let f = s.link.params.f in
-        let g : ℕ = gives_in (session s h) in
-        let same : columns_after s (g + 1) ≡ columns_after s g = omega arith in
-        let quotient : columns_after s (g + 1) / f ≡ columns_after s g / f =
-        ap (λ (n : ℕ). n / f) same in
-        delivered-are ∙ frames-are (length h - g) ∙ no-numbers _ (columns_after s g / f)
-        (columns_after s (g + 1) / f - columns_after s g / f) (omega arith)
-
-    -- then the frame whose last octets are given
-    pub delivered-late : 4 * period s.link.params ≤ gives_in (session s h)
-        → (next s h).delivered
-        ≡ (if length (columns_now s (with_next s h)) % s.link.params.f == 0
-        then frame_at s.link.params (length h - gives_in (session s h) + 4 * period s.link.params)
-        (columns_now s (with_next s h))
-        (length (columns_now s (with_next s h)) / s.link.params.f - 1) ∷ []
-        else [])
-    delivered-late late =
-        let p = s.link.params in
-        let f = p.f in
-        let g : ℕ = gives_in (session s h) in
-        let k : ℕ = columns_after s g in
-        let from : ℕ = length h - g + 4 * period p in
-        let columns : Columns = columns_now s (with_next s h) in
-        let more : columns_after s (g + 1) ≡ k + 1 = omega arith in
-        let long : length columns ≡ k + 1 = length-columns ∙ more in
-        let quotient : columns_after s (g + 1) / f ≡ (k + 1) / f = ap (λ (n : ℕ). n / f) more in
-        let of : ℕ → Delivered =
-        frame_given p from (map (octets_given p (g + 1)) (map came (lanes_of s))) in
-        let due : List Delivered = frame_at p from columns (length columns / f - 1) ∷ [] in
-        delivered-are ∙ frames-are (length h - g)
-        ∙ elim (next-number k f octets_some) [
-          | inl whole ↦
-              let last = whole.0 in
-              let number = whole.1 in
-              let parts : f * ((k + 1) / f) + (k + 1) % f ≡ k + 1 = omega arith in
-              let times : f * (k / f + 1) ≡ k / f * f + f = omega arith in
-              let product : f * ((k + 1) / f) ≡ f * (k / f + 1) = ap (λ (n : ℕ). f * n) number in
-              let count : length columns / f - 1 ≡ k / f = ap (λ (n : ℕ). n / f - 1) long
-              ∙ omega arith in
-              let zero_left : (length columns % f == 0) ≡ true =
-              eq-eqb (length columns % f) 0 (ap (λ (n : ℕ). n % f) long ∙ last) in
-              one-number of (k / f) (columns_after s (g + 1) / f - k / f) (omega arith)
-              ∙ ap (λ (d : Delivered). d ∷ []) (frame-is from (k / f) (omega arith)
-              ∙ ap (frame_at p from columns) (sym count))
-              ∙ sym (cond-true (length columns % f == 0) due [] zero_left)
-          | inr within ↦
-              let last = within.0 in
-              let number = within.1 in
-              let left : (length columns % f == 0) ≡ false = ne_eqb (length columns % f) 0 (λ e.
-              let same : (k + 1) % f ≡ 0 = ap (λ (n : ℕ). n % f) (sym long) ∙ e in
-              absurd (omega arith)) in
-              no-numbers of (k / f) (columns_after s (g + 1) / f - k / f) (omega arith)
-              ∙ sym (cond-false (length columns % f == 0) due [] left)
-        ]
-
-pub delivered-still : (s : Plan) (h : History) → is_running (next s h).stage ≡ false
-    → (next s h).delivered ≡ []
-delivered-still s h e =
-    delivered-next s h
-    ∙ cond-false (is_running (next s h).stage)
+-- where the lanes do not run none leaves
+pub delivered-still : (k : LaneKind) (s : Plan) (h : History)
+    → is_running (next k s h).stage ≡ false → (next k s h).delivered ≡ []
+delivered-still k s h e =
+    delivered-next k s h
+    ∙ cond-false (is_running (next k s h).stage)
     (frames_given s.link.params (length h - gives_in (session s h)) (gives_in (session s h))
-    (map (λ l. entries_b s.link.params s.link.timing l (took s h l)) (lanes_of s))) [] e
+    (map (came k s h) (lanes_of s))) [] e
+
+-- the frames that leave in a tick of a run, whatever its mode
+pub delivered-run : (s : Plan) (t : ℕ) → broken_law s.link.params ≡ None
+    → broken_timing s.link.params s.link.timing ≡ None
+    → (moment_of s (run_of s t)).delivered
+    ≡ delivered_at s.link.params (octets_per_tick s.link.params * (t + 1))
+    (length (columns_kept (kind_of s.link.params) s (run_of s t)))
+    (columns_now (kind_of s.link.params) s (run_of s (suc t)))
+unfolding run
+delivered-run s t laws timing =
+    let p = s.link.params in
+    let k : LaneKind = kind_of p in
+    let facts = facts-of p s.link.timing in
+    let sizes = legal_sizes p laws in
+    let h : History = run_of s t in
+    let columns : Columns = columns_now k s (with_next k s h) in
+    delivered-columns k s h facts (legal p s.link.timing laws timing) sizes.l_low sizes.f_low
+    (has-hunt-run k t s) (λ lane below. depth-run k t s lane facts laws timing below)
+    ∙ ap (λ (n : ℕ). delivered_at p (octets_per_tick p * (n + 1))
+    (length (columns_kept k s h)) columns) (length-run k s t)

@@ -7,8 +7,7 @@ use Rattle.link_params.specs.declared.fields.Params.{Params}
 use Rattle.link_params.specs.declared.cells.LaneCell.{LaneCell}
 use Rattle.link_params.specs.Lanes.{Entry, Placed, Held}
 use Rattle.lane_b.specs.Gives.{given}
-use Rattle.lane_b.specs.Loss.{ilas_length}
-use Rattle.lane_b.proofs.LaneEntries.{AreEntries}
+use Rattle.link_model.proofs.KindFacts.{AreEntries, lead}
 use Rattle.link_model.specs.Before.{no_cell}
 use Rattle.link_model.specs.Gives.{cells_in}
 
@@ -66,19 +65,17 @@ given-no-data zero n = refl
 given-no-data (suc k) zero = refl
 given-no-data (suc k) (suc n) = given-no-data k n
 
--- what the entries of a lane hold
-pub record HasCells (p : Params) (entries : List Entry) : Type 0 where
-  pub cells : (n : ℕ) → cells_in (take n entries) ≡ take (n - ilas_length p) (cells_in entries)
-  pub many : length entries ≤ ilas_length p + length (cells_in entries)
-  pub none : (n : ℕ) → n < ilas_length p → given (get_or entries n Placed) ≡ None
-  pub some : (n : ℕ) → ilas_length p ≤ n → n < length entries
-      → given (get_or entries n Placed)
-      ≡ Some (get_or (cells_in entries) (n - ilas_length p) no_cell)
+-- what entries hold, of which up to m belong to the alignment sequence
+pub record HasCells (m : ℕ) (entries : List Entry) : Type 0 where
+  pub cells : (n : ℕ) → cells_in (take n entries) ≡ take (n - m) (cells_in entries)
+  pub many : length entries ≤ m + length (cells_in entries)
+  pub none : (n : ℕ) → n < m → given (get_or entries n Placed) ≡ None
+  pub some : (n : ℕ) → m ≤ n → n < length entries
+      → given (get_or entries n Placed) ≡ Some (get_or (cells_in entries) (n - m) no_cell)
 
-cells-of-shape : (p : Params) (k : ℕ) (cs : List LaneCell) → k ≤ ilas_length p
-    → (cs ≡ []) ⊎ (k ≡ ilas_length p) → HasCells p (shape k cs)
-cells-of-shape p k cs few whole =
-    let m : ℕ = ilas_length p in
+cells-of-shape : (m k : ℕ) (cs : List LaneCell) → k ≤ m → (cs ≡ []) ⊎ (k ≡ m)
+    → HasCells m (shape k cs)
+cells-of-shape m k cs few whole =
     let all = cells-all k cs in
     let held = ap length all in
     let long = length-append (replicate k Placed) (map Held cs) in
@@ -107,5 +104,5 @@ cells-of-shape p k cs few whole =
     ]
 
 pub cells-of-entries : (p : Params) (entries : List Entry) → AreEntries p entries
-    → HasCells p entries
-cells-of-entries p entries a = rw a.are (cells-of-shape p a.placed a.cells a.few a.whole)
+    → HasCells (lead p) entries
+cells-of-entries p entries a = rw a.are (cells-of-shape (lead p) a.placed a.cells a.few a.whole)

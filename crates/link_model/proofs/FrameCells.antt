@@ -1,84 +1,21 @@
 -- The octets of a frame, lane by lane and by columns.
-use Rattle.std.proofs.Common.{◌≡◌, ℕ, zero, suc, ◌+◌, ◌-◌, ◌*◌, ◌/◌, ◌%◌, ◌<◌, ◌≤◌, List, [], ◌∷◌, ◌++◌, map, length, take, drop, get_or, inl, inr, refl, sym, ap, ap₂, ◌∙◌, length-take, length-drop, arith}
+use Rattle.std.proofs.Common.{◌≡◌, ℕ, zero, suc, ◌+◌, ◌*◌, ◌/◌, ◌%◌, ◌<◌, ◌≤◌, List, [], ◌∷◌, ◌++◌, map, length, take, drop, get_or, inl, inr, refl, sym, ap, ap₂, ◌∙◌, length-take, length-drop, arith}
 use Rattle.std.specs.List.{flat_map}
 use Rattle.std.proofs.Math.Nat.{mod-lt, mul-le-mul_left, mul_comm}
 use Rattle.std.proofs.lemmas.Bool.{cases_lt}
 use Rattle.std.proofs.lemmas.Grind.{flat_map-append}
-use Rattle.std.proofs.lemmas.List.{append-nil, ext_get_or, get_or-drop, get_or-map, get_or-take, length-map, map-append, take_all}
+use Rattle.std.proofs.lemmas.List.{append-nil, ext_get_or, get_or-drop, get_or-map, get_or-take, length-map, map-append}
 use Rattle.std.proofs.lemmas.Nat.{div-mul-add, mod-mul-add}
-use Rattle.jesd_base.specs.Bits.{bits, value}
-use Rattle.jesd_base.proofs.BitLemmas.{bits_length, value_of_bits}
 use Rattle.std.proofs.lemmas.List.Folds.{flat_map-map}
-use Rattle.std.proofs.lemmas.Simd.{map-map}
 use Rattle.link_params.specs.declared.fields.Params.{Params}
-use Rattle.link_params.specs.declared.fields.Mode.TheVariants.{B}
 use Rattle.link_params.specs.declared.cells.LaneCell.{LaneCell}
-use Rattle.link_params.specs.Lanes.{Entry}
-use Rattle.link_params.specs.Numbers.{octets_per_tick}
-use Rattle.lane_b.specs.Loss.{ilas_length}
 use Rattle.scenario.specs.Plans.{numbers_from}
-use Rattle.link_model.proofs.ColumnHistory.{grid}
-use Rattle.link_model.proofs.EntryCells.{HasCells}
-use Rattle.link_model.proofs.NumberLists.{get_or-numbers, length-numbers, map-numbers, numbers-more}
-use Rattle.link_model.specs.Before.{cell_at, cells_of, no_cell, octets_of}
-use Rattle.link_model.specs.Gives.{cells_in, frame_cells, octets_given, octets_in, part_of_frame}
-
--- ---- octets of cells
-
--- the octet of a cell of an 8b/10b lane
-abbrev pub octet : LaneCell → LaneCell
-octet c = record { value = c.value % 256; mark = c.mark }
-
-octets-in-b : (p : Params) (c : LaneCell) → p.mode ≡ B → octets_in p c ≡ octet c ∷ []
-unfolding numbers_from
-octets-in-b p c mode =
-    let one : octets_per_tick p ≡ 1 = rw mode refl in
-    let all : take 8 (bits 8 c.value) ≡ bits 8 c.value =
-    take_all 8 (bits 8 c.value) (let l = bits_length 8 c.value in omega arith) in
-    let low : value (take 8 (bits 8 c.value)) ≡ c.value % 256 = ap value all
-    ∙ value_of_bits 8 c.value in
-    let of : ℕ → List LaneCell =
-    λ n. map (λ j. record {
-      value = value (take 8 (drop (8 * j) (bits (8 * n) c.value)));
-      mark =
-          c.mark;
-    }) (numbers_from 0 n) in
-    ap of one ∙ ap (λ (v : ℕ). let x : LaneCell = record { value = v; mark = c.mark } in x ∷ []) low
-
-octets-of-cells : (cs : List LaneCell) (p : Params) → p.mode ≡ B
-    → flat_map (octets_in p) cs ≡ map octet cs
-octets-of-cells [] p mode = refl
-octets-of-cells (c ∷ cs) p mode = ap₂ (λ (a b : List LaneCell). a ++ b) (octets-in-b p c mode)
-    (octets-of-cells cs p mode)
-
-pub octets-given-b : (p : Params) (n : ℕ) (entries : List Entry) → p.mode ≡ B → HasCells p entries
-    → octets_given p n entries ≡ map octet (take (n - ilas_length p) (cells_in entries))
-unfolding octets_given
-octets-given-b p n entries mode h = octets-of-cells (cells_in (take n entries)) p mode
-    ∙ ap (map octet) (h.cells n)
+use Rattle.link_model.proofs.NumberLists.{get_or-numbers, length-numbers, map-numbers, map-shift, numbers-append, numbers-more}
+use Rattle.link_model.proofs.OctetColumns.{grid}
+use Rattle.link_model.specs.Before.{cell_at, cells_of, no_cell}
+use Rattle.link_model.specs.Gives.{frame_cells, part_of_frame}
 
 -- ---- numbers in rows
-
-map-shift : {A : Type 0} (f : ℕ → A) → (n a b : ℕ)
-    → map f (numbers_from (b + a) n) ≡ map (λ j. f (b + j)) (numbers_from a n)
-unfolding numbers_from
-map-shift f zero a b = refl
-map-shift f (suc n) a b =
-    let e : suc (b + a) ≡ b + suc a = omega arith in
-    ap (λ l. f (b + a) ∷ l) (ap (λ k. map f (numbers_from k n)) e ∙ map-shift f n (suc a) b)
-
-numbers-append : (m n a : ℕ) → numbers_from a (m + n) ≡ numbers_from a m ++ numbers_from (a + m) n
-unfolding numbers_from
-numbers-append zero n a =
-    let e : a ≡ a + 0 = omega arith in
-    let z : 0 + n ≡ n = omega arith in
-    ap (numbers_from a) z ∙ ap (λ k. numbers_from k n) e
-numbers-append (suc m) n a =
-    let e : suc a + m ≡ a + suc m = omega arith in
-    let z : suc m + n ≡ suc (m + n) = omega arith in
-    ap (numbers_from a) z
-    ∙ ap (λ l. a ∷ l) (numbers-append m n (suc a)
-    ∙ ap (λ k. numbers_from (suc a) m ++ numbers_from k n) e)
 
 flat-numbers : {A : Type 0} (f g : ℕ → List A) → (n a : ℕ) → ((x : ℕ) → x < a + n → f x ≡ g x)
     → flat_map f (numbers_from a n) ≡ flat_map g (numbers_from a n)
@@ -156,38 +93,25 @@ lane-of l f i some below = elim (cases_lt (i / f) l) [
 -- the octets of frame q, of n octets of each lane
 pub frame-cells-grid : (p : Params) (all : ℕ → List LaneCell) (n q : ℕ) → 0 < p.f
     → q * p.f + p.f ≤ n → ((lane : ℕ) → lane < p.l → n ≤ length (all lane))
-    → frame_cells p q (map (λ lane. map octet (take n (all lane))) (numbers_from 0 p.l))
-    ≡ map octet (cells_of p (grid p.l all n) q p.f)
+    → frame_cells p q (map (λ lane. take n (all lane)) (numbers_from 0 p.l))
+    ≡ cells_of p (grid p.l all n) q p.f
 frame-cells-grid p all n q some whole enough =
     let f = p.f in
-    let g : ℕ → ℕ → LaneCell = λ lane j. octet (get_or (all lane) (q * f + j) no_cell) in
-    let of : ℕ → List LaneCell = λ lane. map octet (take n (all lane)) in
+    let g : ℕ → ℕ → LaneCell = λ lane j. get_or (all lane) (q * f + j) no_cell in
+    let of : ℕ → List LaneCell = λ lane. take n (all lane) in
     let part : (lane : ℕ) → lane < 0 + p.l → part_of_frame p q (of lane) ≡ map (g lane)
     (numbers_from 0 f) = λ lane below.
     let size = enough lane (omega arith) in
     let taken = length-take n (all lane) in
-    let long = length-map (take n (all lane)) octet in
-    part-is (of lane) (q * f) f (octet no_cell) (omega arith)
-    ∙ map-numbers (λ j. get_or (of lane) (q * f + j) (octet no_cell)) (g lane) f 0 (λ j inside.
-    get_or-map octet (take n (all lane)) (q * f + j) no_cell (octet no_cell) (omega arith)
-    ∙ ap octet (get_or-take n (all lane) (q * f + j) no_cell (omega arith))) in
+    part-is (of lane) (q * f) f no_cell (omega arith)
+    ∙ map-numbers (λ j. get_or (of lane) (q * f + j) no_cell) (g lane) f 0 (λ j inside.
+    get_or-take n (all lane) (q * f + j) no_cell (omega arith)) in
     flat_map-map (part_of_frame p q) of (numbers_from 0 p.l)
     ∙ flat-numbers (λ lane. part_of_frame p q (of lane)) (λ lane. map (g lane) (numbers_from 0 f))
     p.l 0 part
     ∙ flat-rows f g some p.l
     ∙ map-numbers (λ i. g (i / f) (i % f))
-    (λ i. octet (cell_at p (grid p.l all n) q (i / f) (i % f))) (p.l * f) 0 (λ i below.
+    (λ i. cell_at p (grid p.l all n) q (i / f) (i % f)) (p.l * f) 0 (λ i below.
     let small = mod-lt i some in
-    ap octet
-    (sym (cell-in-grid p all n q (i / f) (i % f) (lane-of p.l f i some (omega arith))
-    (omega arith))))
-    ∙ sym (map-map octet (λ i. cell_at p (grid p.l all n) q (i / f) (i % f))
-    (numbers_from 0 (p.l * f)))
-
-pub marks-of-octets : (cs : List LaneCell) → map (λ c. c.mark) (map octet cs) ≡ map (λ c. c.mark) cs
-marks-of-octets [] = refl
-marks-of-octets (c ∷ cs) = ap (λ l. c.mark ∷ l) (marks-of-octets cs)
-
-pub values-of-octets : (cs : List LaneCell) → map (λ c. c.value) (map octet cs) ≡ octets_of cs
-values-of-octets [] = refl
-values-of-octets (c ∷ cs) = ap (λ l. (c.value % 256) ∷ l) (values-of-octets cs)
+    sym (cell-in-grid p all n q (i / f) (i % f) (lane-of p.l f i some (omega arith))
+    (omega arith)))
