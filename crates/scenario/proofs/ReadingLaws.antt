@@ -9,7 +9,7 @@ use Rattle.std.proofs.lemmas.Nat.{pow_pos}
 use Rattle.std.proofs.lemmas.List.Elements.{All-append, All-filter, All-get_or, All-nil}
 use Rattle.link_params.specs.declared.fields.Params.{Params}
 use Rattle.link_params.specs.declared.fields.Timing.{Timing}
-use Rattle.link_params.specs.Laws.{broken_law, is_b}
+use Rattle.link_params.specs.Laws.{broken_law}
 use Rattle.link_params.specs.TimingLaws.{broken_timing}
 use Rattle.scenario.specs.declared.cause.Cause.TheVariants as cause
 use Rattle.scenario.specs.declared.fault.Fault.{Fault}
@@ -26,7 +26,7 @@ use Rattle.scenario.specs.Text.{Text}
 use Rattle.scenario.specs.Check.{fault, unless, basic_fault, fault_of, or_fault}
 use Rattle.scenario.specs.Limits.{event_fits}
 use Rattle.scenario.specs.Plans.{Frames, Plan, Ramp, Source, events_in, in_order, numbers_from, plan_at, source_frame, source_of, source_word}
-use Rattle.scenario.specs.Reads.{Seen, add, misplaced, in_body, frame_checks, words_of, ramp_checks, ramp_of, params_of, is_built, link_checks, link_law, timing_checks, timing_law, timing_of, of_kind, of_known, kind_of, field, version_read, version_fault, is_start, is_whole, step, ended, over, nothing, reads, rows_of, word_limit}
+use Rattle.scenario.specs.Reads.{Seen, add, misplaced, in_body, frame_checks, words_of, ramp_checks, ramp_of, params_of, link_checks, link_law, timing_checks, timing_law, timing_of, of_kind, of_known, kind_of, field, version_read, version_fault, is_start, is_whole, step, ended, over, nothing, reads, rows_of, word_limit}
 use Rattle.scenario.specs.ReadingLaws.{IsLegalPlan, ReadsLegalPlans, ReadsPlans}
 use Rattle.scenario.specs.Sound.{AreSound, IsInput, IsSound}
 use Rattle.scenario.proofs.SoundLemmas.{fault-None, first-None, or_fault-Ok, step-sound, unless-None}
@@ -35,7 +35,6 @@ use Rattle.scenario.proofs.SoundLemmas.{fault-None, first-None, or_fault-Ok, ste
 
 -- parameters that a run takes
 record AreLegal (p : Params) : Type 0 where
-  built : is_b p.mode ≡ true
   laws : broken_law p ≡ None
 
 record IsLegalLink (p : Params) (t : Timing) : Type 0 where
@@ -55,19 +54,14 @@ HasLegal (stage.Body b) = IsLegalLink b.link.params b.link.timing
 at-stage : (s t : Stage) → t ≡ s → HasLegal s → HasLegal t
 at-stage s t e b = rw e b
 
-link-legal : (fields : List Text) → fault_of (length fields) (link_checks job.Run fields) ≡ None
+link-legal : (fields : List Text) → fault_of (length fields) (link_checks fields) ≡ None
     → AreLegal (params_of fields)
 unfolding link_law
 link-legal fields e =
-    let c = link_checks job.Run fields in
+    let c = link_checks fields in
     let more = (first-None (basic_fault (length fields) c) c.more e).1 in
     let law = first-None (option_map (fault cause.Law) (link_law fields)) _ more in
-    record {
-      built = unless-None (is_built job.Run (params_of fields)) (fault cause.NotBuilt 1)
-          (first-None (unless (is_built job.Run (params_of fields)) (fault cause.NotBuilt 1)) []
-          law.1).0;
-      laws = fault-None cause.Law (link_law fields) law.0;
-    }
+    record { laws = fault-None cause.Law (link_law fields) law.0 }
 
 timing-legal : (p : Params) (fields : List Text)
     → fault_of (length fields) (timing_checks p fields) ≡ None
@@ -309,7 +303,6 @@ plan-legal seen k plan e =
     let same : is ≡ plan = cc e in
     let (input, octets, ticks, events) = k.sound in
     let legal : IsLegalPlan is = record {
-      built = k.legal.of_params.built;
       laws = k.legal.of_params.laws;
       timing = k.legal.timing;
       some_ticks = ticks.some;

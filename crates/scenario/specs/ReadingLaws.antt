@@ -3,7 +3,7 @@
 -- Code: none of this is computed; the reader checks record by record.
 use Rattle.std.specs.Prelude.{◌≡◌, ◌≤◌, ◌<◌, ℕ, ◌*◌, List, true, length, slice_index, Some, None, Ok}
 use Rattle.std.specs.List.{All}
-use Rattle.link_params.specs.Laws.{broken_law, is_b}
+use Rattle.link_params.specs.Laws.{broken_law}
 use Rattle.link_params.specs.TimingLaws.{broken_timing}
 use Rattle.scenario.specs.declared.kind.Job.TheVariants as job
 use Rattle.scenario.specs.Limits.{event_fits, flip_fits, jitter_fits}
@@ -11,9 +11,8 @@ use Rattle.scenario.specs.Plans.{Plan, plan_read, source_frame}
 use Rattle.scenario.specs.Reads.{Seen, reads, word_limit}
 
 -- a plan whose link obeys the laws, whose events, jitters and flips are in range, and whose source
--- frames are M·S words each; `run` is built for 8b/10b lanes so far
+-- frames are M·S words each
 pub record IsLegalPlan (s : Plan) : Type 0 where
-  pub built : is_b s.link.params.mode ≡ true
   pub laws : broken_law s.link.params ≡ None
   pub timing : broken_timing s.link.params s.link.timing ≡ None
   pub some_ticks : 1 ≤ s.ticks

@@ -13,7 +13,7 @@ use Rattle.link_params.specs.declared.fields.Timing.{Timing}
 use Rattle.link_params.specs.declared.alarms.Device.{Device}
 use Rattle.link_params.specs.declared.alarms.Device.TheVariants as device
 use Rattle.link_params.specs.Links.{Link}
-use Rattle.link_params.specs.Laws.{broken_law, is_b}
+use Rattle.link_params.specs.Laws.{broken_law}
 use Rattle.link_params.specs.Numbers.{octets_per_tick, period, width}
 use Rattle.link_params.specs.TimingLaws.{broken_timing}
 use Rattle.scenario.specs.declared.cause.Cause.TheVariants as cause
@@ -139,25 +139,14 @@ params_of fields = record {
 unfoldable pub link_law : List Text → Option ℕ
 link_law fields = broken_law (params_of fields)
 
-abbrev pub is_run : Job → Bool
-is_run job.Map = false
-is_run job.Unmap = false
-is_run job.Run = true
-
--- `run` is built for 8b/10b lanes so far
-abbrev pub is_built : Job → Params → Bool
-is_built j p = not (is_run j) || is_b p.mode
-
--- `link`: mode, L, M, F, S, N, N', CS, HD, SCR, K, E; HD and SCR are 0 or 1, the laws hold, and the
--- job is built
-abbrev pub link_checks : Job → List Text → Checks
-link_checks j fields = record {
+-- `link`: mode, L, M, F, S, N, N', CS, HD, SCR, K, E; HD and SCR are 0 or 1, and the laws hold
+abbrev pub link_checks : List Text → Checks
+link_checks fields = record {
   count = 12;
   forms = is_some (mode_of (field fields 1)) ∷ are_numbers 2 11 fields;
   ranges = true ∷ true ∷ true ∷ true ∷ true ∷ true ∷ true ∷ true ∷ nat_le (num fields 9) 1
       ∷ nat_le (num fields 10) 1 ∷ [];
-  more = option_map (fault cause.Law) (link_law fields) ∷ unless (is_built j (params_of fields))
-      (fault cause.NotBuilt 1) ∷ [];
+  more = option_map (fault cause.Law) (link_law fields) ∷ [];
 }
 
 abbrev pub timing_of : List Text → Timing
@@ -434,7 +423,7 @@ in_body seen fields b k = misplaced
 -- a record of a known kind, at a place in the order
 abbrev pub of_kind : Seen → List Text → Stage → Kind → Result Seen Fault
 of_kind seen fields (stage.Link j) kind.Link =
-    add fields (link_checks j fields) (record seen { stage = after_link j (params_of fields) })
+    add fields (link_checks fields) (record seen { stage = after_link j (params_of fields) })
 of_kind seen fields (stage.Frames p) kind.Frame =
     add fields (frame_checks p fields) (record seen { words = seen.words ++ words_of fields })
 of_kind seen fields (stage.Octets p) kind.Octets =

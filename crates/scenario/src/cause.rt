@@ -30,7 +30,7 @@ pub enum Cause {
     TooMany,
     /// Required records are missing.
     Missing,
-    /// A run of 64b/66b lanes, or a kind of version 2: neither is built.
+    /// A kind of version 2, none of which is built.
     NotBuilt,
 }
 

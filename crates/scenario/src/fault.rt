@@ -33,7 +33,7 @@ pub enum ScenarioFault {
     /// | 9 | the run is too large | the field: 1 |
     /// | 10 | events and jitters, or the counts of flips, are too many | 0 |
     /// | 11 | required records are missing; `row` is one more than the records | 0 |
-    /// | 12 | not built: a run of 64b/66b lanes, or a kind of version 2 | the field: 1 for the lanes, 0 for the kind |
+    /// | 12 | a kind of version 2, none of which is built | 0 |
     Bad { row: u32, cause: u8, at: u32 },
     /// Memory ran out.
     NoMemory,

@@ -1,22 +1,18 @@
 //! The record `link`.
-ghost use Rattle.std.specs.Prelude.{◌≡◌, ◌≤◌, ◌<◌, ◌^◌, ◌||◌, not, length};
-ghost use Rattle.link_params.specs.Laws.{is_b};
-ghost use Rattle.scenario.specs.declared.kind.Job.{Job as JobOf};
+ghost use Rattle.std.specs.Prelude.{◌≡◌, ◌≤◌, ◌<◌, ◌^◌, length};
 ghost use Rattle.scenario.specs.Check.{ReadOr, fault_of, basic_fault};
-ghost use Rattle.scenario.specs.Reads.{texts_of, is_run, link_checks, params_of};
+ghost use Rattle.scenario.specs.Reads.{texts_of, link_checks, params_of};
 
 use crate::cause::Cause;
 use crate::fault::Fault;
-use crate::kind::Job;
 use crate::row::{count, field_at, read_mode, read_numbers};
 use csv::ByteRecord;
-use link_params::{Mode, Params, Shape};
+use link_params::{Params, Shape};
 
 /// The parameters that a record `link` names, before their laws.
 fn read_params(row: &ByteRecord) -> Result<Params, Fault>
     requires { length (texts_of row.now) < 2 ^ 32 }
-    ensures { (job : JobOf)
-        → ReadOr (basic_fault (length (texts_of row.now)) (link_checks job (texts_of row.now)))
+    ensures { ReadOr (basic_fault (length (texts_of row.now)) (link_checks (texts_of row.now)))
         (params_of (texts_of row.now)) result }
 {
     let fields = count(row);
@@ -51,30 +47,15 @@ fn read_params(row: &ByteRecord) -> Result<Params, Fault>
     })
 }
 
-/// Whether the job is built for lanes of this mode.
-fn is_built_job(job: Job, mode: Mode) -> bool
-    ensures { result ≡ (not (is_run job) || is_b mode) }
-{
-    match (job, mode) {
-        (Job::Run, Mode::CCrc | Mode::CFec) => false,
-        _ => true,
-    }
-}
-
 /// The shape that a record `link` names.
-pub fn read_link(job: Job, row: &ByteRecord) -> Result<Shape, Fault>
+pub fn read_link(row: &ByteRecord) -> Result<Shape, Fault>
     requires { length (texts_of row.now) < 2 ^ 32 }
-    ensures { ReadOr (fault_of (length (texts_of row.now)) (link_checks job (texts_of row.now)))
+    ensures { ReadOr (fault_of (length (texts_of row.now)) (link_checks (texts_of row.now)))
         (params_of (texts_of row.now)) result }
 {
     let params = read_params(row)?;
     match params.check() {
-        Ok(shape) => {
-            if !is_built_job(job, params.mode) {
-                return Err(Cause::NotBuilt.at(1));
-            }
-            Ok(shape)
-        }
+        Ok(shape) => Ok(shape),
         Err(law) => Err(Cause::Law.at(u32::from(law.0))),
     }
 }

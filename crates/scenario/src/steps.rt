@@ -82,7 +82,7 @@ impl Reading {
         let Stage::Link(job) = self.stage else {
             return misplaced();
         };
-        match read_link(job, row) {
+        match read_link(row) {
             Ok(shape) => {
                 self.stage = stage_after_link(job, shape);
                 Ok(())

@@ -438,8 +438,7 @@ fn what_goes_into_a_run(rt: HostRuntime) {
 fn where_bad_runs_are_wrong(rt: HostRuntime) {
     let alloc = rt.alloc();
     let table: [(&[u8], (u32, u8, u32)); 10] = [
-        // not built for 64b/66b lanes; a broken law comes first
-        (b"jesd,1\nlink,ccrc,1,1,4,1,30,32,2,0,1,0,1\n", (2, 12, 1)),
+        (b"jesd,1\nlink,ccrc,1,1,4,1,30,32,2,0,1,0,1\n", (3, 11, 0)),
         (b"jesd,1\nlink,ccrc,1,1,3,1,24,24,0,0,1,0,1\n", (2, 8, 12)),
         (
             b"jesd,1\nlink,b,1,1,2,1,16,16,0,0,1,32,0\nrun,1000,all\n",
