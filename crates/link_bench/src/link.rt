@@ -1,11 +1,8 @@
 //! The run of a scenario's link.
 ghost use Rattle.std.specs.Prelude.{◌≡◌, IfOk, IsTrue, is_some, Some};
-ghost use Rattle.std.specs.Option.{ForSome};
-ghost use Rattle.link_params.specs.declared.fields.Mode.TheVariants.{B};
-ghost use Rattle.lane_b.specs.Received.{lanes_b};
 ghost use Rattle.scenario.specs.Plans.{Plan, plan_of};
-ghost use Rattle.link_model.specs.Report.{report, totals};
-ghost use Rattle.link_model.specs.Run.{run as history};
+ghost use Rattle.link_model.specs.Kinds.{report_of, run_of};
+ghost use Rattle.link_model.specs.Report.{totals};
 ghost use Rattle.link_laws.specs.LawsB.{RunLaws};
 
 use jesd_base::NoMemory;
@@ -22,11 +19,10 @@ use std::alloc::Global;
 /// or the link gets no memory.
 pub fn run_link(alloc: Global, scenario: &Scenario) -> Result<Ran, NoMemory>
     requires link { IsTrue (is_some scenario.now.link) }
-    requires mode { ForSome scenario.now.link (λ k. k.params.mode ≡ B) }
     ensures text { (plan : Plan) → plan_of scenario.now ≡ Some plan
         → IfOk result (λ r. r.text.items ≡ report lanes_b plan) }
     ensures totals { (plan : Plan) → plan_of scenario.now ≡ Some plan
-        → IfOk result (λ r. r.totals ≡ totals plan (history lanes_b plan plan.ticks)) }
+        → IfOk result (λ r. r.totals ≡ totals plan (run_of plan plan.ticks)) }
     ensures laws { (plan : Plan) → plan_of scenario.now ≡ Some plan → RunLaws plan }
 {
     let Some(link) = scenario.link else {
