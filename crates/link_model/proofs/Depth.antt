@@ -52,27 +52,27 @@ length-line-word w sent flips d dead =
 
 -- each tick has ten bits
 pub word-ten : (s : Plan) (h : History) (lane : ℕ) → s.link.params.mode ≡ B → lane < s.link.params.l
-    → length (get_or (next s h).taken lane []) ≡ 10
+    → length (get_or (next lanes_b s h).taken lane []) ≡ 10
 word-ten s h lane mode below =
     let ten : width s.link.params ≡ 10 = rw mode refl in
-    ap length (word-lane s h lane below) ∙ length-line-word (width s.link.params) _ _ _ _ ∙ ten
+    ap length (word-lane lanes_b s h lane below) ∙ length-line-word (width s.link.params) _ _ _ _ ∙ ten
 
 -- the report of a lane
 pub report-lane : (s : Plan) (h : History) (lane : ℕ) → lane < s.link.params.l
-    → get_or (next s h).reports lane no_report ≡ report_b s.link.params s.link.timing lane
-    (took s h lane)
+    → get_or (next lanes_b s h).reports lane no_report ≡ report_b s.link.params s.link.timing lane
+    (took lanes_b s h lane)
 report-lane s h lane below =
     let long = length-numbers s.link.params.l 0 in
-    let f : ℕ → LaneReport = λ l. report_b s.link.params s.link.timing l (took s h l) in
+    let f : ℕ → LaneReport = λ l. report_b s.link.params s.link.timing l (took lanes_b s h l) in
     let same : 0 + lane ≡ lane = omega arith in
-    ap (λ (l : List LaneReport). get_or l lane no_report) (reports-next s h)
+    ap (λ (l : List LaneReport). get_or l lane no_report) (reports-next lanes_b s h)
     ∙ get_or-map f (lanes_of s) lane 0 no_report (omega arith)
     ∙ ap f (get_or-numbers s.link.params.l lane 0 0 below ∙ same)
 
-pub length-reports : (s : Plan) (h : History) → length (next s h).reports ≡ s.link.params.l
+pub length-reports : (s : Plan) (h : History) → length (next lanes_b s h).reports ≡ s.link.params.l
 length-reports s h =
-    ap length (reports-next s h)
-    ∙ length-map (lanes_of s) (λ l. report_b s.link.params s.link.timing l (took s h l))
+    ap length (reports-next lanes_b s h)
+    ∙ length-map (lanes_of s) (λ l. report_b s.link.params s.link.timing l (took lanes_b s h l))
     ∙ length-numbers s.link.params.l 0
 
 -- ---- what is kept
@@ -89,9 +89,9 @@ pub record HasDepth (s : Plan) (h : History) (lane : ℕ) : Type 0 where
   pub goes : ends_in_hunt h ≡ false → LaneIn (standing_after s h).stage s.link.params s.link.timing
       (phase_before s (length h))
       (started_b s.link.params s.link.timing lane (taken_in (current h) lane))
-      (length (entries_now s h lane)) (gives_in (current h))
-  pub within : gives_in (current h) ≤ length (entries_now s h lane)
-  pub fits : length (entries_now s h lane) - gives_in (current h)
+      (length (entries_now lanes_b s h lane)) (gives_in (current h))
+  pub within : gives_in (current h) ≤ length (entries_now lanes_b s h lane)
+  pub fits : length (entries_now lanes_b s h lane) - gives_in (current h)
       ≤ depth s.link.params s.link.timing
 
 -- the same with the tick that comes: what the session holds
@@ -131,16 +131,16 @@ pub ready : (s : Plan) (h : History) (lane : ℕ) → IsLegal s.link.params s.li
 ready s h lane l d = elim (cases_Bool (is_reset s Rx (length h))) [
   | inl e ↦
       let begins : begins_hunt s h ≡ true = ap (λ (b : Bool). b || ends_in_hunt h) e in
-      ready-hunt s h lane (session-hunt s h (hunt-next s h ∙ begins))
+      ready-hunt s h lane (session-hunt lanes_b s h (hunt-next lanes_b s h ∙ begins))
       (ap (λ (x : Standing). x.stage) (standing-reset s h e))
   | inr e ↦
       let kept = standing-kept s h e in
       let same : begins_hunt s h ≡ ends_in_hunt h = ap (λ (b : Bool). b || ends_in_hunt h) e in
       elim (cases_Bool (ends_in_hunt h)) [
-        | inl ends ↦ ready-hunt s h lane (session-hunt s h (hunt-next s h ∙ same ∙ ends))
+        | inl ends ↦ ready-hunt s h lane (session-hunt lanes_b s h (hunt-next lanes_b s h ∙ same ∙ ends))
             (ap (λ (x : Standing). x.stage) kept ∙ d.in_hunt ends)
         | inr goes ↦
-            let on = session-goes-on s h (hunt-next s h ∙ same ∙ goes) in
+            let on = session-goes-on lanes_b s h (hunt-next lanes_b s h ∙ same ∙ goes) in
             let some = l.some in
             record {
               tens = rw on d.tens;
@@ -155,51 +155,51 @@ ready s h lane l d = elim (cases_Bool (is_reset s Rx (length h))) [
 
 pub tick-outcome : (s : Plan) (h : History) (lane : ℕ) → s.link.params.mode ≡ B
     → IsLegal s.link.params s.link.timing → lane < s.link.params.l → HasDepth s h lane
-    → Outcome s.link.params s.link.timing (next s h).decided.decision (next s h).stage
+    → Outcome s.link.params s.link.timing (next lanes_b s h).decided.decision (next lanes_b s h).stage
     (phase s Rx (length h))
-    (started_b s.link.params s.link.timing lane (took s h lane))
-    (length (entries_b s.link.params s.link.timing lane (took s h lane))) (gives_in (session s h))
+    (started_b s.link.params s.link.timing lane (took lanes_b s h lane))
+    (length (entries_b s.link.params s.link.timing lane (took lanes_b s h lane))) (gives_in (session s h))
 unfolding told_of
 tick-outcome s h lane mode l below kept =
     let p = s.link.params in
     let t = s.link.timing in
-    let m = next s h in
+    let m = next lanes_b s h in
     let before : Standing = standing s h in
     let r = ready s h lane l kept in
     let w : Taken = record { order = told_of s h; word = get_or m.taken lane [] } in
     let d_is : m.decided.decision
     ≡ (if m.decides then (decide p t before.stage before.since m.reports).decision else
     decision.Stay) =
-    ap (λ (x : Decided). x.decision) (decided-next s h)
+    ap (λ (x : Decided). x.decision) (decided-next lanes_b s h)
     ∙ elim (cases_Bool m.decides) [ inl e ↦ rw e refl | inr e ↦ rw e refl ] in
     let after_is : m.stage
     ≡ (if m.decides then
     (after_decision before m.reports
     (decide p t before.stage before.since m.reports).decision).stage else before.stage) =
-    stage-next s h in
+    stage-next lanes_b s h in
     let long = length-reports s h in
     lane-step p t l lane (taken_in (session s h) lane) w r.tens (word-ten s h lane mode below)
     before m.reports m.decides m.decided.decision m.stage d_is after_is
     (phase_before s (length h)) (phase s Rx (length h)) (gives_in (session s h)) refl refl r.phases
-    (decides-next s h) (omega arith)
+    (decides-next lanes_b s h) (omega arith)
     (ap (λ (x : LaneReport). x.started) (report-lane s h lane below)) r.lane_in
 
 -- what a lane took in the session with the tick
 pub taken-more : (s : Plan) (h : History) (lane : ℕ) → HasHunt h
-    → taken_in (current (with_next s h)) lane ≡ took s h lane
-taken-more s h lane begun = sym (took-stepped s h lane begun)
+    → taken_in (current (with_next lanes_b s h)) lane ≡ took lanes_b s h lane
+taken-more s h lane begun = sym (took-stepped lanes_b s h lane begun)
 
 pub entries-more : (s : Plan) (h : History) (lane : ℕ) → HasHunt h
-    → entries_now s (with_next s h) lane ≡ entries_b s.link.params s.link.timing lane
-    (took s h lane)
+    → entries_now lanes_b s (with_next lanes_b s h) lane ≡ entries_b s.link.params s.link.timing lane
+    (took lanes_b s h lane)
 entries-more s h lane begun = ap (entries_b s.link.params s.link.timing lane)
     (taken-more s h lane begun)
 
 pub gives-more : (s : Plan) (h : History) → HasHunt h
-    → gives_in (current (with_next s h)) ≡ gives_in (session s h)
-    + (if is_running (next s h).stage then 1 else 0)
-gives-more s h begun = ap gives_in (current-session s h begun)
-    ∙ gives-in-more (session s h) (next s h)
+    → gives_in (current (with_next lanes_b s h)) ≡ gives_in (session s h)
+    + (if is_running (next lanes_b s h).stage then 1 else 0)
+gives-more s h begun = ap gives_in (current-session lanes_b s h begun)
+    ∙ gives-in-more (session s h) (next lanes_b s h)
 
 phase-before-more : (s : Plan) (h : History) (m : Moment)
     → phase_before s (length (h ++ m ∷ [])) ≡ phase s Rx (length h)
@@ -220,11 +220,11 @@ depth-none s lane =
 
 pub depth-next : (s : Plan) (h : History) (lane : ℕ) → s.link.params.mode ≡ B
     → IsLegal s.link.params s.link.timing → lane < s.link.params.l → HasHunt h
-    → HasDepth s h lane → HasDepth s (with_next s h) lane
+    → HasDepth s h lane → HasDepth s (with_next lanes_b s h) lane
 depth-next s h lane mode l below begun kept =
     let o = tick-outcome s h lane mode l below kept in
-    let ends = ends-in-hunt-more h (next s h) in
-    let after = stage-standing s h in
+    let ends = ends-in-hunt-more h (next lanes_b s h) in
+    let after = stage-standing lanes_b s h in
     let taken = taken-more s h lane begun in
     let gave = gives-more s h begun in
     let entries = entries-more s h lane begun in
@@ -232,12 +232,12 @@ depth-next s h lane mode l below begun kept =
     let fits = o.fits in
     let within = o.within in
     let r = ready s h lane l kept in
-    let at = phase-before-more s h (next s h) in
+    let at = phase-before-more s h (next lanes_b s h) in
     record {
       tens =
           rw taken
           (are_tens-more (taken_in (session s h) lane)
-          (record { order = told_of s h; word = get_or (next s h).taken lane [] }) r.tens
+          (record { order = told_of s h; word = get_or (next lanes_b s h).taken lane [] }) r.tens
           (word-ten s h lane mode below));
       in_hunt = λ e. sym after ∙ o.hunts (sym ends ∙ e);
       goes = λ e. rw (← after, at, taken, gave) (o.goes (sym ends ∙ e));
@@ -254,14 +254,14 @@ unfolding run
 depth-run zero s lane laws timing mode below = depth-none s lane
 depth-run (suc t) s lane laws timing mode below =
     depth-next s (run lanes_b s t) lane mode (legal s.link.params s.link.timing laws timing mode)
-    below (has-hunt-run t s)
+    below (has-hunt-run lanes_b t s)
     (depth-run t s lane laws timing mode below)
 
 -- there is room for the entry of the tick that comes, where it begins no hunt
 pub has-room : (t : ℕ) (s : Plan) (lane : ℕ) → broken_law s.link.params ≡ None
     → broken_timing s.link.params s.link.timing ≡ None
     → s.link.params.mode ≡ B → lane < s.link.params.l → (told_of s (run lanes_b s t)).hunt ≡ false
-    → length (entries_now s (run lanes_b s t) lane) - gives_in (current (run lanes_b s t))
+    → length (entries_now lanes_b s (run lanes_b s t) lane) - gives_in (current (run lanes_b s t))
     < depth s.link.params s.link.timing
 unfolding told_of
 has-room t s lane laws timing mode below goes =
@@ -271,29 +271,29 @@ has-room t s lane laws timing mode below goes =
     let no = (or_parts (is_reset s Rx (length h)) (ends_in_hunt h) goes).1 in
     room-in s.link.params s.link.timing l (standing_after s h).stage (phase_before s (length h))
     (started_b s.link.params s.link.timing lane (taken_in (current h) lane))
-    (length (entries_now s h lane)) (gives_in (current h)) (d.goes no)
+    (length (entries_now lanes_b s h lane)) (gives_in (current h)) (d.goes no)
 
 -- the lanes gave no more than came
 pub gave-within : (t : ℕ) (s : Plan) (lane : ℕ) → broken_law s.link.params ≡ None
     → broken_timing s.link.params s.link.timing ≡ None
     → s.link.params.mode ≡ B → lane < s.link.params.l
-    → gives_in (current (run lanes_b s t)) ≤ length (entries_now s (run lanes_b s t) lane)
+    → gives_in (current (run lanes_b s t)) ≤ length (entries_now lanes_b s (run lanes_b s t) lane)
 gave-within t s lane laws timing mode below = (depth-run t s lane laws timing mode below).within
 
 -- no buffer ever holds more than it has room for
 pub depth-holds : (t : ℕ) (s : Plan) (lane : ℕ) → broken_law s.link.params ≡ None
     → broken_timing s.link.params s.link.timing ≡ None
     → s.link.params.mode ≡ B → lane < s.link.params.l
-    → length (entries_now s (run lanes_b s t) lane) - gives_in (current (run lanes_b s t))
+    → length (entries_now lanes_b s (run lanes_b s t) lane) - gives_in (current (run lanes_b s t))
     ≤ depth s.link.params s.link.timing
 depth-holds t s lane laws timing mode below = (depth-run t s lane laws timing mode below).fits
 
 -- in a tick in which the lanes run each lane has an entry to give
 pub has-entry : (t : ℕ) (s : Plan) (lane : ℕ) → broken_law s.link.params ≡ None
     → broken_timing s.link.params s.link.timing ≡ None
-    → s.link.params.mode ≡ B → lane < s.link.params.l → (next s (run lanes_b s t)).stage ≡ stage.Run
+    → s.link.params.mode ≡ B → lane < s.link.params.l → (next lanes_b s (run lanes_b s t)).stage ≡ stage.Run
     → gives_in (session s (run lanes_b s t))
-    < length (entries_b s.link.params s.link.timing lane (took s (run lanes_b s t) lane))
+    < length (entries_b s.link.params s.link.timing lane (took lanes_b s (run lanes_b s t) lane))
 has-entry t s lane laws timing mode below runs =
     let h = run lanes_b s t in
     let o = tick-outcome s h lane mode (legal s.link.params s.link.timing laws timing mode) below

@@ -1,4 +1,4 @@
--- What a lane of a run went through, with a tick more.
+-- What a lane of a run went through, with a tick more, for any kind of lane.
 use Rattle.std.proofs.Common.{◌≡◌, ℕ, zero, suc, ◌+◌, ◌<◌, Bool, true, false, if◌then◌else◌, List, [], ◌∷◌, ◌++◌, length, drop, get_or, slice_index, Option, Some, None, inl, inr, ◌⊎◌, refl, sym, ap, ap₂, ◌∙◌, append-nil, arith, unwrap_or}
 use Rattle.std.proofs.lemmas.Bool.{cases_Bool, cond-true, cond-false, or_right}
 use Rattle.std.proofs.lemmas.List.{map_push, get_or-map}
@@ -6,9 +6,8 @@ use Rattle.std.proofs.lemmas.List.Concat.{flat_map-append}
 use Rattle.std.proofs.lemmas.List.Sums.{fold_push}
 use Rattle.link_params.specs.declared.alarms.Device.TheVariants.{Tx, Rx}
 use Rattle.link_params.specs.declared.orders.RxOrder.{RxOrder}
-use Rattle.link_params.specs.Lanes.{Handed, Taken}
+use Rattle.link_params.specs.Lanes.{Handed, LaneKind, Taken}
 use Rattle.bring_up.specs.Decisions.{is_running}
-use Rattle.lane_b.specs.Received.{lanes_b}
 use Rattle.scenario.specs.Plans.{Plan}
 use Rattle.link_model.proofs.NextMoment.{lanes_of, next, sent-next, taken-next, told-next, took, with_next}
 use Rattle.link_model.proofs.NumberLists.{get_or-numbers, length-numbers}
@@ -89,114 +88,114 @@ from-hunt-more (x ∷ h) m l e some =
 pub record HasHunt (h : History) : Type 0 where
   pub found : 0 < length h → (l : History) × (from_hunt h ≡ Some l)
 
-pub hunt-next : (s : Plan) (h : History) → (next s h).told.hunt ≡ begins_hunt s h
+pub hunt-next : (k : LaneKind) (s : Plan) (h : History) → (next k s h).told.hunt ≡ begins_hunt s h
 unfolding told_of
-hunt-next s h = ap (λ (o : RxOrder). o.hunt) (told-next s h)
+hunt-next k s h = ap (λ (o : RxOrder). o.hunt) (told-next k s h)
 
-pub session-hunt : (s : Plan) (h : History) → (next s h).told.hunt ≡ true → session s h ≡ []
+pub session-hunt : (k : LaneKind) (s : Plan) (h : History) → (next k s h).told.hunt ≡ true → session s h ≡ []
 unfolding session
-session-hunt s h e = let begins : begins_hunt s h ≡ true = sym (hunt-next s h) ∙ e in rw begins refl
+session-hunt k s h e = let begins : begins_hunt s h ≡ true = sym (hunt-next k s h) ∙ e in rw begins refl
 
-pub session-goes-on : (s : Plan) (h : History) → (next s h).told.hunt ≡ false
+pub session-goes-on : (k : LaneKind) (s : Plan) (h : History) → (next k s h).told.hunt ≡ false
     → session s h ≡ current h
 unfolding session
-session-goes-on s h e = let goes : begins_hunt s h ≡ false = sym (hunt-next s h) ∙ e in rw goes refl
+session-goes-on k s h e = let goes : begins_hunt s h ≡ false = sym (hunt-next k s h) ∙ e in rw goes refl
 
-first-hunts : (s : Plan) → (next s []).told.hunt ≡ true
+first-hunts : (k : LaneKind) (s : Plan) → (next k s []).told.hunt ≡ true
 unfolding ends_in_hunt
-first-hunts s = hunt-next s [] ∙ or_right (is_reset s Rx 0) true refl
+first-hunts k s = hunt-next k s [] ∙ or_right (is_reset s Rx 0) true refl
 
-some-ticks : (s : Plan) (h : History) → (next s h).told.hunt ≡ false → 0 < length h
-some-ticks s [] e = let bad : true ≡ false = sym (first-hunts s) ∙ e in absurd (cc)
-some-ticks s (x ∷ h) e = omega arith
+some-ticks : (k : LaneKind) (s : Plan) (h : History) → (next k s h).told.hunt ≡ false → 0 < length h
+some-ticks k s [] e = let bad : true ≡ false = sym (first-hunts k s) ∙ e in absurd (cc)
+some-ticks k s (x ∷ h) e = omega arith
 
 pub has-hunt-none : HasHunt []
 has-hunt-none = record { found = λ some. absurd (omega arith) }
 
-pub has-hunt-next : (s : Plan) (h : History) → HasHunt h → HasHunt (with_next s h)
-has-hunt-next s h begun = elim (cases_Bool (next s h).told.hunt) [
-  | inl e ↦ record { found = λ some. (next s h ∷ [], from-hunt-here h (next s h) e) }
-  | inr e ↦ let l = begun.found (some-ticks s h e) in
-      record { found = λ some. (l.0 ++ next s h ∷ [], from-hunt-more h (next s h) l.0 e l.1) }
+pub has-hunt-next : (k : LaneKind) (s : Plan) (h : History) → HasHunt h → HasHunt (with_next k s h)
+has-hunt-next k s h begun = elim (cases_Bool (next k s h).told.hunt) [
+  | inl e ↦ record { found = λ some. (next k s h ∷ [], from-hunt-here h (next k s h) e) }
+  | inr e ↦ let l = begun.found (some-ticks k s h e) in
+      record { found = λ some. (l.0 ++ next k s h ∷ [], from-hunt-more h (next k s h) l.0 e l.1) }
 ]
 
-pub has-hunt-run : (t : ℕ) (s : Plan) → HasHunt (run lanes_b s t)
+pub has-hunt-run : (k : LaneKind) (t : ℕ) (s : Plan) → HasHunt (run k s t)
 unfolding run
-has-hunt-run zero s = has-hunt-none
-has-hunt-run (suc t) s = has-hunt-next s (run lanes_b s t) (has-hunt-run t s)
+has-hunt-run k zero s = has-hunt-none
+has-hunt-run k (suc t) s = has-hunt-next k s (run k s t) (has-hunt-run k t s)
 
 pub current-hunt : (h : History) (m : Moment) → m.told.hunt ≡ true → current (h ++ m ∷ []) ≡ m ∷ []
 current-hunt h m e = ap (λ (o : Option History). unwrap_or o []) (from-hunt-here h m e)
 
-pub current-goes-on : (s : Plan) (h : History) → HasHunt h → (next s h).told.hunt ≡ false
-    → current (with_next s h) ≡ current h ++ next s h ∷ []
-current-goes-on s h begun e =
-    let l = begun.found (some-ticks s h e) in
-    ap (λ (o : Option History). unwrap_or o []) (from-hunt-more h (next s h) l.0 e l.1)
-    ∙ ap (λ (o : Option History). unwrap_or o [] ++ next s h ∷ []) (sym l.1)
+pub current-goes-on : (k : LaneKind) (s : Plan) (h : History) → HasHunt h → (next k s h).told.hunt ≡ false
+    → current (with_next k s h) ≡ current h ++ next k s h ∷ []
+current-goes-on k s h begun e =
+    let l = begun.found (some-ticks k s h e) in
+    ap (λ (o : Option History). unwrap_or o []) (from-hunt-more h (next k s h) l.0 e l.1)
+    ∙ ap (λ (o : Option History). unwrap_or o [] ++ next k s h ∷ []) (sym l.1)
 
-pub current-next : (s : Plan) (h : History) → HasHunt h
-    → current (with_next s h) ≡ (if (next s h).told.hunt then next s h ∷ [] else current h
-    ++ next s h ∷ [])
-current-next s h begun = elim (cases_Bool (next s h).told.hunt) [
-  | inl e ↦ current-hunt h (next s h) e
-      ∙ sym (cond-true (next s h).told.hunt (next s h ∷ []) (current h ++ next s h ∷ []) e)
-  | inr e ↦ current-goes-on s h begun e
-      ∙ sym (cond-false (next s h).told.hunt (next s h ∷ []) (current h ++ next s h ∷ []) e)
+pub current-next : (k : LaneKind) (s : Plan) (h : History) → HasHunt h
+    → current (with_next k s h) ≡ (if (next k s h).told.hunt then next k s h ∷ [] else current h
+    ++ next k s h ∷ [])
+current-next k s h begun = elim (cases_Bool (next k s h).told.hunt) [
+  | inl e ↦ current-hunt h (next k s h) e
+      ∙ sym (cond-true (next k s h).told.hunt (next k s h ∷ []) (current h ++ next k s h ∷ []) e)
+  | inr e ↦ current-goes-on k s h begun e
+      ∙ sym (cond-false (next k s h).told.hunt (next k s h ∷ []) (current h ++ next k s h ∷ []) e)
 ]
 
 -- the session with the tick
-pub current-session : (s : Plan) (h : History) → HasHunt h → current (with_next s h) ≡ session s h
-    ++ next s h ∷ []
-current-session s h begun = elim (cases_Bool (next s h).told.hunt) [
-  | inl e ↦ current-hunt h (next s h) e ∙ ap (λ (l : History). l ++ next s h ∷ [])
-      (sym (session-hunt s h e))
-  | inr e ↦ current-goes-on s h begun e ∙ ap (λ (l : History). l ++ next s h ∷ [])
-      (sym (session-goes-on s h e))
+pub current-session : (k : LaneKind) (s : Plan) (h : History) → HasHunt h → current (with_next k s h) ≡ session s h
+    ++ next k s h ∷ []
+current-session k s h begun = elim (cases_Bool (next k s h).told.hunt) [
+  | inl e ↦ current-hunt h (next k s h) e ∙ ap (λ (l : History). l ++ next k s h ∷ [])
+      (sym (session-hunt k s h e))
+  | inr e ↦ current-goes-on k s h begun e ∙ ap (λ (l : History). l ++ next k s h ∷ [])
+      (sym (session-goes-on k s h e))
 ]
 
 -- ---- what a lane was handed, sent and took
 
-pub sent-lane : (s : Plan) (h : History) (lane : ℕ) → lane < s.link.params.l
-    → get_or (next s h).sent lane [] ≡ sent_by lanes_b s h (next s h).order
-    (slice_index (next s h).handed lane) lane
-sent-lane s h lane below =
+pub sent-lane : (k : LaneKind) (s : Plan) (h : History) (lane : ℕ) → lane < s.link.params.l
+    → get_or (next k s h).sent lane [] ≡ sent_by k s h (next k s h).order
+    (slice_index (next k s h).handed lane) lane
+sent-lane k s h lane below =
     let long = length-numbers s.link.params.l 0 in
-    let f : ℕ → List Bool = λ l. sent_by lanes_b s h (next s h).order
-    (slice_index (next s h).handed l) l in
+    let f : ℕ → List Bool = λ l. sent_by k s h (next k s h).order
+    (slice_index (next k s h).handed l) l in
     let same : 0 + lane ≡ lane = omega arith in
-    ap (λ (l : List (List Bool)). get_or l lane []) (sent-next s h)
+    ap (λ (l : List (List Bool)). get_or l lane []) (sent-next k s h)
     ∙ get_or-map f (lanes_of s) lane 0 [] (omega arith)
     ∙ ap f (get_or-numbers s.link.params.l lane 0 0 below ∙ same)
 
-pub taken-lane : (s : Plan) (h : History) (lane : ℕ) → lane < s.link.params.l
-    → get_or (next s h).taken lane [] ≡ received s lane (length h)
-    (sent_bits h lane ++ get_or (next s h).sent lane [])
-taken-lane s h lane below =
+pub taken-lane : (k : LaneKind) (s : Plan) (h : History) (lane : ℕ) → lane < s.link.params.l
+    → get_or (next k s h).taken lane [] ≡ received s lane (length h)
+    (sent_bits h lane ++ get_or (next k s h).sent lane [])
+taken-lane k s h lane below =
     let long = length-numbers s.link.params.l 0 in
     let f : ℕ → List Bool =
-    λ l. received s l (length h) (sent_bits h l ++ get_or (next s h).sent l []) in
+    λ l. received s l (length h) (sent_bits h l ++ get_or (next k s h).sent l []) in
     let same : 0 + lane ≡ lane = omega arith in
-    ap (λ (l : List (List Bool)). get_or l lane []) (taken-next s h)
+    ap (λ (l : List (List Bool)). get_or l lane []) (taken-next k s h)
     ∙ get_or-map f (lanes_of s) lane 0 [] (omega arith)
     ∙ ap f (get_or-numbers s.link.params.l lane 0 0 below ∙ same)
 
 -- the bits that a lane sends in the tick
-pub bits-lane : (s : Plan) (h : History) (lane : ℕ) → lane < s.link.params.l
-    → get_or (next s h).sent lane [] ≡ bits_with s lane (lane_ready s h lane) (next s h).order
-    (slice_index (next s h).handed lane)
+pub bits-lane : (k : LaneKind) (s : Plan) (h : History) (lane : ℕ) → lane < s.link.params.l
+    → get_or (next k s h).sent lane [] ≡ bits_with k s lane (lane_ready s h lane) (next k s h).order
+    (slice_index (next k s h).handed lane)
 unfolding sent_by
-bits-lane s h lane below = sent-lane s h lane below
+bits-lane k s h lane below = sent-lane k s h lane below
 
 -- the bits that it receives
-pub word-lane : (s : Plan) (h : History) (lane : ℕ) → lane < s.link.params.l
-    → get_or (next s h).taken lane [] ≡ word_with s lane (lane_ready s h lane) (next s h).order
-    (slice_index (next s h).handed lane)
+pub word-lane : (k : LaneKind) (s : Plan) (h : History) (lane : ℕ) → lane < s.link.params.l
+    → get_or (next k s h).taken lane [] ≡ word_with k s lane (lane_ready s h lane) (next k s h).order
+    (slice_index (next k s h).handed lane)
 unfolding received
-word-lane s h lane below =
-    taken-lane s h lane below
+word-lane k s h lane below =
+    taken-lane k s h lane below
     ∙ ap (λ (bs : List Bool). received s lane (length h) (sent_bits h lane ++ bs))
-    (bits-lane s h lane below)
+    (bits-lane k s h lane below)
 
 pub sent-bits-more : (h : History) (m : Moment) (lane : ℕ)
     → sent_bits (h ++ m ∷ []) lane ≡ sent_bits h lane ++ get_or m.sent lane []
@@ -225,17 +224,17 @@ gives-in-more h m = fold_push (λ (k : ℕ) (m : Moment). k + (if is_running m.s
 
 -- ---- a lane of a run
 
-abbrev pub run_of : List Handed → List Bool → ℕ → Bool → List Taken → ℕ → LaneRun
-run_of handed sent delay dead taken gave =
+abbrev pub gone_through : List Handed → List Bool → ℕ → Bool → List Taken → ℕ → LaneRun
+gone_through handed sent delay dead taken gave =
     record { handed = handed; sent = sent; delay = delay; dead = dead; taken = taken; gave = gave }
 
 pub same-runs : (x y : LaneRun) → x.handed ≡ y.handed → x.sent ≡ y.sent → x.delay ≡ y.delay
     → x.dead ≡ y.dead → x.taken ≡ y.taken → x.gave ≡ y.gave → x ≡ y
 same-runs x y handed sent delay dead taken gave =
-    ap (λ (a : List Handed). run_of a x.sent x.delay x.dead x.taken x.gave) handed
-    ∙ ap (λ (a : List Bool). run_of y.handed a x.delay x.dead x.taken x.gave) sent
-    ∙ ap₂ (λ (a : ℕ) (b : Bool). run_of y.handed y.sent a b x.taken x.gave) delay dead
-    ∙ ap₂ (λ (a : List Taken) (b : ℕ). run_of y.handed y.sent y.delay y.dead a b) taken gave
+    ap (λ (a : List Handed). gone_through a x.sent x.delay x.dead x.taken x.gave) handed
+    ∙ ap (λ (a : List Bool). gone_through y.handed a x.delay x.dead x.taken x.gave) sent
+    ∙ ap₂ (λ (a : ℕ) (b : Bool). gone_through y.handed y.sent a b x.taken x.gave) delay dead
+    ∙ ap₂ (λ (a : List Taken) (b : ℕ). gone_through y.handed y.sent y.delay y.dead a b) taken gave
 
 -- what the events of the tick leave of it
 pub ready-handed : (s : Plan) (h : History) (lane : ℕ)
@@ -247,104 +246,104 @@ ready-handed s h lane =
     ap (λ (l : History). handed_in l lane) (drop-reset s Tx h)
     ∙ elim (cases_Bool (is_reset s Tx (length h))) [ inl e ↦ rw e refl | inr e ↦ rw e refl ]
 
-handed-step : (s : Plan) (h : History) (lane : ℕ)
-    → handed_with (lane_ready s h lane) (next s h).order (slice_index (next s h).handed lane)
-    ≡ handed_in (drop (last_reset s Tx (length h)) (with_next s h)) lane
+handed-step : (k : LaneKind) (s : Plan) (h : History) (lane : ℕ)
+    → handed_with (lane_ready s h lane) (next k s h).order (slice_index (next k s h).handed lane)
+    ≡ handed_in (drop (last_reset s Tx (length h)) (with_next k s h)) lane
 unfolding handed_since
-handed-step s h lane = sym (
-    ap (λ (l : History). handed_in l lane) (drop-last-reset s Tx h (next s h))
-    ∙ handed-in-more (drop (last_reset s Tx (length h)) h) (next s h) lane)
+handed-step k s h lane = sym (
+    ap (λ (l : History). handed_in l lane) (drop-last-reset s Tx h (next k s h))
+    ∙ handed-in-more (drop (last_reset s Tx (length h)) h) (next k s h) lane)
 
-sent-step : (s : Plan) (h : History) (lane : ℕ) → lane < s.link.params.l
-    → sent_bits h lane ++ bits_with s lane (lane_ready s h lane) (next s h).order
-    (slice_index (next s h).handed lane) ≡ sent_bits (with_next s h) lane
-sent-step s h lane below =
-    sym (sent-bits-more h (next s h) lane ∙ ap (λ (l : List Bool). sent_bits h lane ++ l)
-    (bits-lane s h lane below))
+sent-step : (k : LaneKind) (s : Plan) (h : History) (lane : ℕ) → lane < s.link.params.l
+    → sent_bits h lane ++ bits_with k s lane (lane_ready s h lane) (next k s h).order
+    (slice_index (next k s h).handed lane) ≡ sent_bits (with_next k s h) lane
+sent-step k s h lane below =
+    sym (sent-bits-more h (next k s h) lane ∙ ap (λ (l : List Bool). sent_bits h lane ++ l)
+    (bits-lane k s h lane below))
 
 -- what its receiver end has taken in the session with this tick
-pub took-stepped : (s : Plan) (h : History) (lane : ℕ) → HasHunt h
-    → took s h lane ≡ (lane_stepped s h lane).taken
-took-stepped s h lane begun =
+pub took-stepped : (k : LaneKind) (s : Plan) (h : History) (lane : ℕ) → HasHunt h
+    → took k s h lane ≡ (lane_stepped k s h lane).taken
+took-stepped k s h lane begun =
     ap (λ (o : RxOrder). taken_in (session s h) lane
-    ++ (record { order = o; word = get_or (next s h).taken lane [] }) ∷ [])
-    (sym (told-next s h))
-    ∙ sym (ap (λ (l : History). taken_in l lane) (current-session s h begun)
-    ∙ taken-in-more (session s h) (next s h) lane)
+    ++ (record { order = o; word = get_or (next k s h).taken lane [] }) ∷ [])
+    (sym (told-next k s h))
+    ∙ sym (ap (λ (l : History). taken_in l lane) (current-session k s h begun)
+    ∙ taken-in-more (session s h) (next k s h) lane)
 
 -- what a lane takes in the tick
-abbrev pub takes : Plan → History → ℕ → Taken
-takes s h lane =
+abbrev pub takes : LaneKind → Plan → History → ℕ → Taken
+takes k s h lane =
     record {
-      order = (next s h).told;
-      word = word_with s lane (lane_ready s h lane) (next s h).order
-          (slice_index (next s h).handed lane);
+      order = (next k s h).told;
+      word = word_with k s lane (lane_ready s h lane) (next k s h).order
+          (slice_index (next k s h).handed lane);
     }
 
-takes-step : (s : Plan) (h : History) (lane : ℕ) → HasHunt h → lane < s.link.params.l
-    → taken_in (current (with_next s h)) lane ≡ taken_in (session s h) lane ++ takes s h lane ∷ []
-takes-step s h lane begun below =
-    ap (λ (l : History). taken_in l lane) (current-session s h begun)
-    ∙ taken-in-more (session s h) (next s h) lane
+takes-step : (k : LaneKind) (s : Plan) (h : History) (lane : ℕ) → HasHunt h → lane < s.link.params.l
+    → taken_in (current (with_next k s h)) lane ≡ taken_in (session s h) lane ++ takes k s h lane ∷ []
+takes-step k s h lane begun below =
+    ap (λ (l : History). taken_in l lane) (current-session k s h begun)
+    ∙ taken-in-more (session s h) (next k s h) lane
     ∙ ap (λ (w : List Bool). taken_in (session s h) lane
-    ++ (record { order = (next s h).told; word = w }) ∷ []) (word-lane s h lane below)
+    ++ (record { order = (next k s h).told; word = w }) ∷ []) (word-lane k s h lane below)
 
-taken-step : (s : Plan) (h : History) (lane : ℕ) → HasHunt h → lane < s.link.params.l
-    → (if (next s h).told.hunt then takes s h lane ∷ [] else taken_in (current h) lane
-    ++ takes s h lane ∷ []) ≡ taken_in (current (with_next s h)) lane
-taken-step s h lane begun below = elim (cases_Bool (next s h).told.hunt) [
-  | inl e ↦ cond-true (next s h).told.hunt (takes s h lane ∷ [])
-      (taken_in (current h) lane ++ takes s h lane ∷ []) e
-      ∙ sym (takes-step s h lane begun below
-      ∙ ap (λ (l : History). taken_in l lane ++ takes s h lane ∷ []) (session-hunt s h e))
-  | inr e ↦ cond-false (next s h).told.hunt (takes s h lane ∷ [])
-      (taken_in (current h) lane ++ takes s h lane ∷ []) e
-      ∙ sym (takes-step s h lane begun below
-      ∙ ap (λ (l : History). taken_in l lane ++ takes s h lane ∷ []) (session-goes-on s h e))
+taken-step : (k : LaneKind) (s : Plan) (h : History) (lane : ℕ) → HasHunt h → lane < s.link.params.l
+    → (if (next k s h).told.hunt then takes k s h lane ∷ [] else taken_in (current h) lane
+    ++ takes k s h lane ∷ []) ≡ taken_in (current (with_next k s h)) lane
+taken-step k s h lane begun below = elim (cases_Bool (next k s h).told.hunt) [
+  | inl e ↦ cond-true (next k s h).told.hunt (takes k s h lane ∷ [])
+      (taken_in (current h) lane ++ takes k s h lane ∷ []) e
+      ∙ sym (takes-step k s h lane begun below
+      ∙ ap (λ (l : History). taken_in l lane ++ takes k s h lane ∷ []) (session-hunt k s h e))
+  | inr e ↦ cond-false (next k s h).told.hunt (takes k s h lane ∷ [])
+      (taken_in (current h) lane ++ takes k s h lane ∷ []) e
+      ∙ sym (takes-step k s h lane begun below
+      ∙ ap (λ (l : History). taken_in l lane ++ takes k s h lane ∷ []) (session-goes-on k s h e))
 ]
 
-gave-step : (s : Plan) (h : History) → (if (next s h).told.hunt then 0 else gives_in (current h))
+gave-step : (k : LaneKind) (s : Plan) (h : History) → (if (next k s h).told.hunt then 0 else gives_in (current h))
     ≡ gives_in (session s h)
-gave-step s h = elim (cases_Bool (next s h).told.hunt) [
-  | inl e ↦ cond-true (next s h).told.hunt 0 (gives_in (current h)) e
-      ∙ sym (ap gives_in (session-hunt s h e))
-  | inr e ↦ cond-false (next s h).told.hunt 0 (gives_in (current h)) e
-      ∙ sym (ap gives_in (session-goes-on s h e))
+gave-step k s h = elim (cases_Bool (next k s h).told.hunt) [
+  | inl e ↦ cond-true (next k s h).told.hunt 0 (gives_in (current h)) e
+      ∙ sym (ap gives_in (session-hunt k s h e))
+  | inr e ↦ cond-false (next k s h).told.hunt 0 (gives_in (current h)) e
+      ∙ sym (ap gives_in (session-goes-on k s h e))
 ]
 
 -- with the tick sent and taken
-pub lane-stepped : (s : Plan) (h : History) (lane : ℕ) → HasHunt h → lane < s.link.params.l
-    → stepped s lane (lane_ready s h lane) (next s h).order (slice_index (next s h).handed lane)
-    (next s h).told ≡ lane_stepped s h lane
-lane-stepped s h lane begun below =
+pub lane-stepped : (k : LaneKind) (s : Plan) (h : History) (lane : ℕ) → HasHunt h → lane < s.link.params.l
+    → stepped k s lane (lane_ready s h lane) (next k s h).order (slice_index (next k s h).handed lane)
+    (next k s h).told ≡ lane_stepped k s h lane
+lane-stepped k s h lane begun below =
     same-runs
-    (stepped s lane (lane_ready s h lane) (next s h).order (slice_index (next s h).handed lane)
-    (next s h).told) (lane_stepped s h lane)
-    (handed-step s h lane) (sent-step s h lane below) refl refl (taken-step s h lane begun below)
-    (gave-step s h)
+    (stepped k s lane (lane_ready s h lane) (next k s h).order (slice_index (next k s h).handed lane)
+    (next k s h).told) (lane_stepped k s h lane)
+    (handed-step k s h lane) (sent-step k s h lane below) refl refl (taken-step k s h lane begun below)
+    (gave-step k s h)
 
-pub gave-next : (s : Plan) (h : History) → HasHunt h
-    → gives_in (current (with_next s h)) ≡ gives_in (session s h)
-    + (if is_running (next s h).stage then 1 else 0)
-gave-next s h begun = ap gives_in (current-session s h begun)
-    ∙ gives-in-more (session s h) (next s h)
+pub gave-next : (k : LaneKind) (s : Plan) (h : History) → HasHunt h
+    → gives_in (current (with_next k s h)) ≡ gives_in (session s h)
+    + (if is_running (next k s h).stage then 1 else 0)
+gave-next k s h begun = ap gives_in (current-session k s h begun)
+    ∙ gives-in-more (session s h) (next k s h)
 
 -- a lane once the tick is over
-pub lane-run-next : (s : Plan) (h : History) (lane : ℕ) → HasHunt h
-    → lane_run s (with_next s h) lane ≡ record (lane_stepped s h lane)
-    { gave = gives_in (session s h) + (if is_running (next s h).stage then 1 else 0) }
-lane-run-next s h lane begun =
+pub lane-run-next : (k : LaneKind) (s : Plan) (h : History) (lane : ℕ) → HasHunt h
+    → lane_run s (with_next k s h) lane ≡ record (lane_stepped k s h lane)
+    { gave = gives_in (session s h) + (if is_running (next k s h).stage then 1 else 0) }
+lane-run-next k s h lane begun =
     let after : LaneRun =
-    record (lane_stepped s h lane)
-    { gave = gives_in (session s h) + (if is_running (next s h).stage then 1 else 0) } in
-    let since = drop-reset-before s Tx h (next s h) ∙ sym (drop-last-reset s Tx h (next s h)) in
-    same-runs (lane_run s (with_next s h) lane) after
+    record (lane_stepped k s h lane)
+    { gave = gives_in (session s h) + (if is_running (next k s h).stage then 1 else 0) } in
+    let since = drop-reset-before s Tx h (next k s h) ∙ sym (drop-last-reset s Tx h (next k s h)) in
+    same-runs (lane_run s (with_next k s h) lane) after
     (ap (λ (l : History). handed_in l lane) since)
     refl
-    (ap (delay_before s lane) (length-more h (next s h)))
-    (ap (dead_before s lane) (length-more h (next s h)))
+    (ap (delay_before s lane) (length-more h (next k s h)))
+    (ap (dead_before s lane) (length-more h (next k s h)))
     refl
-    (gave-next s h begun)
+    (gave-next k s h begun)
 
 -- and before the first tick
 pub lane-run-none : (s : Plan) (lane : ℕ) → lane_run s [] lane ≡ no_run s

@@ -3,6 +3,7 @@ use Rattle.std.proofs.Common.{◌≡◌, true, false, if◌then◌else◌, List,
 use Rattle.std.proofs.lemmas.Bool.{cases_Bool, cond-true, cond-false}
 use Rattle.link_params.specs.declared.fields.Params.{Params}
 use Rattle.link_params.specs.declared.fields.Timing.{Timing}
+use Rattle.link_params.specs.Lanes.{LaneKind}
 use Rattle.link_params.specs.declared.alarms.Device.TheVariants.{Rx}
 use Rattle.link_params.specs.declared.lane_report.LaneReport.{LaneReport}
 use Rattle.bring_up.specs.declared.stage.Decision.TheVariants.{Stay}
@@ -109,21 +110,21 @@ standing-after-more s h m =
           ∙ sym (cond-false m.decides (after_reports p t (standing s h) m.reports) (standing s h) e)
     ]
 
-pub stage-standing : (s : Plan) (h : History)
-    → (next s h).stage ≡ (standing_after s (with_next s h)).stage
-stage-standing s h =
+pub stage-standing : (k : LaneKind) (s : Plan) (h : History)
+    → (next k s h).stage ≡ (standing_after s (with_next k s h)).stage
+stage-standing k s h =
     let p = s.link.params in
     let t = s.link.timing in
-    let m = next s h in
-    stage-next s h
+    let m = next k s h in
+    stage-next k s h
     ∙ sym (ap (λ (x : Standing). x.stage) (standing-after-more s h m)
     ∙ elim (cases_Bool m.decides) [ inl e ↦ rw e refl | inr e ↦ rw e refl ])
 
-pub decided-is : (s : Plan) (h : History)
-    → (next s h).decided
-    ≡ (if (next s h).decides then decide_at s.link.params s.link.timing (standing s h)
-    (next s h).reports else decided Stay [])
-decided-is s h = decided-next s h
+pub decided-is : (k : LaneKind) (s : Plan) (h : History)
+    → (next k s h).decided
+    ≡ (if (next k s h).decides then decide_at s.link.params s.link.timing (standing s h)
+    (next k s h).reports else decided Stay [])
+decided-is k s h = decided-next k s h
 
 pub ends-in-hunt-more : (h : History) (m : Moment)
     → ends_in_hunt (h ++ m ∷ []) ≡ is_hunt m.decided.decision

@@ -3,24 +3,18 @@ use Rattle.std.proofs.Common.{◌≡◌, ℕ, zero, suc, ◌+◌, ◌-◌, ◌*�
 use Rattle.std.proofs.lemmas.Bool.{cases_Bool, cases_lt, lt-ltb, le-ltb, ne_eqb}
 use Rattle.std.proofs.lemmas.List.{length-map, length-replicate, length_push, map_push, get_or-take, get_or_append_left, get_or-map, drop-append-le, drop_all}
 use Rattle.std.proofs.lemmas.List.Concat.{flat_map-append}
-use Rattle.link_params.specs.declared.fields.Params.{Params}
-use Rattle.link_params.specs.declared.fields.Mode.TheVariants.{B}
+use Rattle.link_params.specs.Lanes.{LaneKind}
 use Rattle.link_params.specs.declared.alarms.Device.{Device}
 use Rattle.link_params.specs.declared.alarms.Device.TheVariants.{Tx}
-use Rattle.link_params.specs.Numbers.{octets_per_tick, period}
-use Rattle.sample_map.specs.Frames.{frame_of}
 use Rattle.bring_up.specs.Decisions.{is_hunting}
-use Rattle.scenario.specs.Plans.{Plan, numbers_from, source_frame}
-use Rattle.lane_b.specs.Received.{lanes_b}
-use Rattle.link_model.proofs.NextMoment.{entered-next, handed-next, lanes_of, next, order-next, with_next}
+use Rattle.scenario.specs.Plans.{Plan, numbers_from}
+use Rattle.link_model.proofs.NextMoment.{handed-next, lanes_of, next, order-next}
 use Rattle.link_model.proofs.NumberLists.{get_or-numbers, length-numbers, map-numbers, numbers-to}
-use Rattle.link_model.specs.Before.{IsOrderB, frame_place, observed_before, reset_before, seen_of}
+use Rattle.link_model.specs.Before.{observed_before, reset_before, seen_of}
 use Rattle.link_model.specs.Edges.{is_reset, last_reset, phase}
-use Rattle.link_model.specs.LaneRuns.{octet_handed}
 use Rattle.link_model.specs.Moments.{History, Moment}
-use Rattle.link_model.specs.Orders.{Observed, after_boundary, order_b, since_boundary, tx_order}
-use Rattle.link_model.specs.Run.{run}
-use Rattle.link_model.specs.Sends.{beginnings, begins_frame, data_place, frames_before, handed_to, observed, observed_at, octet_of, order_of, seen_low}
+use Rattle.link_model.specs.Orders.{Observed, tx_order}
+use Rattle.link_model.specs.Sends.{data_place, frames_before, handed_to, observed, observed_at, order_of, seen_low}
 
 -- ---- resets
 
@@ -183,126 +177,17 @@ frames-before-more h m =
     ∙ length-append (flat_map (λ m. m.entered) h) (flat_map (λ m. m.entered) (m ∷ []))
     ∙ ap (λ l. frames_before h + length l) one
 
-after-boundary-b : (p : Params) (n : ℕ) → IsOrderB (after_boundary p n)
-after-boundary-b p n = elim (cases_lt n (4 * period p)) [
-  | inl below ↦ rw (lt-ltb n (4 * period p) below) tt
-  | inr above ↦ rw (le-ltb n (4 * period p) above) tt
-]
-
-order-b-is : (p : Params) (hs : List Observed) (n : ℕ) → length (since_boundary hs) ≡ n
-    → IsOrderB (order_b p hs)
-order-b-is p hs zero e = rw e tt
-order-b-is p hs (suc n) e = rw (e, ne_eqb (suc n) 0 (λ z. omega arith))
-    (after-boundary-b p (suc n - 1))
-
-tx-order-is : (p : Params) (hs : List Observed) → p.mode ≡ B → tx_order p hs ≡ order_b p hs
-unfolding tx_order
-tx-order-is p hs e = rw e refl
-
-pub tx-order-b : (p : Params) (hs : List Observed) → p.mode ≡ B → IsOrderB (tx_order p hs)
-tx-order-b p hs e = subst IsOrderB (sym (tx-order-is p hs e))
-    (order-b-is p hs (length (since_boundary hs)) refl)
-
-pub order-next-b : (s : Plan) (h : History) → s.link.params.mode ≡ B → IsOrderB (next s h).order
-unfolding order_of
-order-next-b s h e = rw (order-next s h) (tx-order-b s.link.params (observed s h) e)
-
--- the frames that begin in tick t, at this place, on 8b/10b lanes
-abbrev pub entered_b : Params → ℕ → Option ℕ → List ℕ
-entered_b p t None = []
-entered_b p t (Some x) = if x % p.f == 0 then t ∷ [] else []
-
-one-octet : (p : Params) → p.mode ≡ B → octets_per_tick p ≡ 1
-one-octet p e = rw e refl
-
-begins-b : (p : Params) (x : ℕ) → p.mode ≡ B → begins_frame p x 0 ≡ (x % p.f == 0)
-begins-b p x e =
-    let z : 1 * x + 0 ≡ x = omega arith in
-    ap (λ (n : ℕ). (n * x + 0) % p.f == 0) (one-octet p e) ∙ ap (λ (n : ℕ). n % p.f == 0) z
-
-beginnings-b : (p : Params) (x : ℕ) → p.mode ≡ B
-    → filter (begins_frame p x) (numbers_from 0 1) ≡ (if x % p.f == 0 then 0 ∷ [] else [])
-unfolding numbers_from
-beginnings-b p x e = elim (cases_Bool (x % p.f == 0)) [
-  | inl t ↦ rw (begins-b p x e ∙ t, t) refl
-  | inr f ↦ rw (begins-b p x e ∙ f, f) refl
-]
-
-entered-at-b : (p : Params) (t : ℕ) (place : Option ℕ) → p.mode ≡ B
-    → map (λ j. octets_per_tick p * t + j) (beginnings p place) ≡ entered_b p t place
-entered-at-b p t None e = refl
-entered-at-b p t (Some x) e =
-    let now : 1 * t + 0 ≡ t = omega arith in
-    ap (λ (n : ℕ). map (λ j. n * t + j) (filter (begins_frame p x) (numbers_from 0 n)))
-    (one-octet p e)
-    ∙ ap (map (λ (j : ℕ). 1 * t + j)) (beginnings-b p x e)
-    ∙ elim (cases_Bool (x % p.f == 0)) [
-      | inl t ↦ rw t (ap (λ k. k ∷ []) now)
-      | inr f ↦ rw f refl
-    ]
-
-pub entered-next-b : (s : Plan) (h : History) → s.link.params.mode ≡ B
-    → (next s h).entered ≡ entered_b s.link.params (length h) (data_place (next s h).order)
-entered-next-b s h e = entered-next s h ∙ entered-at-b s.link.params (length h)
-    (data_place (next s h).order) e
-
 -- the octets that each lane is handed
-pub handed-lane : (s : Plan) (h : History) (lane : ℕ) → lane < s.link.params.l
-    → slice_index (next s h).handed lane ≡ handed_to s (frames_before h)
-    (data_place (next s h).order) lane
-handed-lane s h lane below =
+pub handed-lane : (k : LaneKind) (s : Plan) (h : History) (lane : ℕ) → lane < s.link.params.l
+    → slice_index (next k s h).handed lane ≡ handed_to s (frames_before h)
+    (data_place (next k s h).order) lane
+handed-lane k s h lane below =
     let long = length-numbers s.link.params.l 0 in
-    let f = handed_to s (frames_before h) (data_place (next s h).order) in
+    let f = handed_to s (frames_before h) (data_place (next k s h).order) in
     let zero_more : 0 + lane ≡ lane = omega arith in
-    ap (λ l. get_or l lane 0) (handed-next s h)
+    ap (λ l. get_or l lane 0) (handed-next k s h)
     ∙ get_or-map f (lanes_of s) lane 0 0 (omega arith)
     ∙ ap f (get_or-numbers s.link.params.l lane 0 0 below ∙ zero_more)
-
--- the octet of the frame that began last, where so many began before a tick at this place
-handed-at-b : (s : Plan) (before lane : ℕ) (place : Option ℕ) → s.link.params.mode ≡ B
-    → handed_to s before place lane
-    ≡ octet_handed s.link.params
-    (frame_of s.link.params
-    (source_frame s (before + length (entered_b s.link.params 0 place) - 1)))
-    (option_map (λ x. x % s.link.params.f) place) lane
-unfolding handed_to numbers_from
-handed-at-b s before lane None e = refl
-handed-at-b s before lane (Some x) e =
-    let p = s.link.params in
-    let one : 256 * 0 + octet_of s before x lane 0 ≡ octet_of s before x lane 0 = omega arith in
-    let begun : length (filter (begins_frame p x) (numbers_from 0 1))
-    ≡ length (entered_b p 0 (Some x)) = ap length (beginnings-b p x e) in
-    let z : 1 * x + 0 ≡ x = omega arith in
-    ap (λ (n : ℕ). fold (λ v j. 256 * v + octet_of s before x lane j) 0 (numbers_from 0 n))
-    (one-octet p e)
-    ∙ one
-    ∙ ap₂ (λ (n o : ℕ). slice_index (frame_of p (source_frame s (before + n - 1)))
-    (lane * p.f + (o * x + 0) % p.f)) begun (one-octet p e)
-    ∙ ap (λ (o : ℕ). slice_index
-    (frame_of p (source_frame s (before + length (entered_b p 0 (Some x)) - 1)))
-    (lane * p.f + o % p.f)) z
-
-length-entered-b : (p : Params) (t u : ℕ) (place : Option ℕ)
-    → length (entered_b p t place) ≡ length (entered_b p u place)
-length-entered-b p t u None = refl
-length-entered-b p t u (Some x) =
-    elim (cases_Bool (x % p.f == 0)) [ inl t ↦ rw t refl | inr f ↦ rw f refl ]
-
-pub handed-next-b : (s : Plan) (h : History) (lane : ℕ) → s.link.params.mode ≡ B
-    → lane < s.link.params.l
-    → slice_index (next s h).handed lane
-    ≡ octet_handed s.link.params
-    (frame_of s.link.params (source_frame s (frames_before (with_next s h) - 1)))
-    (frame_place s.link.params (next s h).order) lane
-handed-next-b s h lane e below =
-    let p = s.link.params in
-    let place = data_place (next s h).order in
-    let count : frames_before (with_next s h) ≡ frames_before h + length (entered_b p 0 place) =
-    frames-before-more h (next s h) ∙ ap (λ l. frames_before h + length l) (entered-next-b s h e)
-    ∙ ap (λ k. frames_before h + k) (length-entered-b p (length h) 0 place) in
-    handed-lane s h lane below ∙ handed-at-b s (frames_before h) lane place e
-    ∙ ap (λ (k : ℕ). octet_handed p (frame_of p (source_frame s (k - 1)))
-    (frame_place p (next s h).order) lane) (sym count)
 
 -- what the transmitter observes in the tick that comes, and what it orders
 pub observed-at-next : (s : Plan) (h : History)
@@ -315,25 +200,15 @@ observed-at-next s h =
     ap (λ (b : Bool). let o : Observed = record { phase = phase s Tx (length h); low = b } in o)
     (seen-low-next s h)
 
-pub order-observed : (s : Plan) (h : History)
-    → (next s h).order ≡ tx_order s.link.params
+pub order-observed : (k : LaneKind) (s : Plan) (h : History)
+    → (next k s h).order ≡ tx_order s.link.params
     ((if is_reset s Tx (length h) then [] else observed_before s h) ++ observed_at s h (length h)
     ∷ [])
 unfolding order_of
-order-observed s h = order-next s h ∙ ap (tx_order s.link.params) (observed-next s h)
+order-observed k s h = order-next k s h ∙ ap (tx_order s.link.params) (observed-next s h)
 
 -- ---- runs
 
 pub observed-before-none : (s : Plan) → observed_before s [] ≡ []
 unfolding observed_before numbers_from
 observed-before-none s = refl
-
-pub run-more : (t : ℕ) (s : Plan) → run lanes_b s (suc t) ≡ with_next s (run lanes_b s t)
-unfolding run
-run-more t s = refl
-
-pub length-run : (t : ℕ) (s : Plan) → length (run lanes_b s t) ≡ t
-unfolding run
-length-run zero s = refl
-length-run (suc t) s = length-more (run lanes_b s t) (next s (run lanes_b s t))
-    ∙ ap suc (length-run t s)

@@ -1,7 +1,7 @@
 -- What is over before the tick that comes: words for lemmas about a history, which the definition
 -- of a run does not need.
 -- Code: what the parts of a run keep.
-use Rattle.std.specs.Prelude.{◌≤◌, ◌<◌, ◌+◌, ◌*◌, ℕ, zero, suc, List, [], Bool, ◌-◌, ◌/◌, ◌%◌, ◌==◌, if◌then◌else◌, map, fold, length, get_or, Option, Some, None, false, ◌++◌, take, drop, slice_index, unwrap_or, true, replicate, option_map}
+use Rattle.std.specs.Prelude.{◌≤◌, ◌<◌, ◌+◌, ◌*◌, ℕ, zero, suc, List, [], Bool, ◌-◌, ◌/◌, ◌%◌, ◌==◌, if◌then◌else◌, map, fold, length, get_or, Option, Some, None, false, ◌++◌, take, drop, slice_index, unwrap_or, true, replicate}
 use Rattle.link_params.specs.declared.alarms.Device.{Device}
 use Rattle.link_params.specs.Links.{Link}
 use Rattle.scenario.specs.Plans.{Plan, numbers_from}
@@ -9,21 +9,20 @@ use Rattle.link_params.specs.declared.fields.Params.{Params}
 use Rattle.link_params.specs.declared.cells.LaneCell.{LaneCell}
 use Rattle.link_params.specs.declared.cells.Mark.{Mark}
 use Rattle.link_params.specs.declared.cells.Mark.TheVariants.{Ok as Good}
-use Rattle.link_params.specs.Lanes.{worse, Entry, Handed}
+use Rattle.link_params.specs.Lanes.{worse, Entry, Handed, LaneKind}
 use Rattle.link_params.specs.declared.alarms.Device.TheVariants.{Tx, Rx}
+use Rattle.link_params.specs.Numbers.{octets_per_tick}
 use Rattle.link_params.specs.declared.lane_report.LaneReport.{LaneReport}
-use Rattle.lane_b.specs.Received.{entries_b}
-use Rattle.link_params.specs.declared.orders.TxOrder.{TxOrder}
-use Rattle.link_params.specs.declared.orders.TxOrder.TheVariants.{Comma, Ilas, Data, Silent, Block}
+use Rattle.sample_map.specs.Frames.{words_of}
 use Rattle.bring_up.specs.Decisions.{is_hunting}
 use Rattle.link_model.specs.Carried.{delay_at, first_delay, is_dead}
 use Rattle.link_model.specs.Edges.{edges, last_reset}
-use Rattle.link_model.specs.Gives.{cells_in, gives_in}
+use Rattle.link_model.specs.Gives.{gives_in, octets_given, octets_in}
 use Rattle.link_model.specs.Hunts.{from_hunt, points}
-use Rattle.link_model.specs.Moments.{History}
+use Rattle.link_model.specs.Moments.{Delivered, History}
 use Rattle.link_model.specs.Orders.{Observed}
 use Rattle.link_model.specs.Receives.{taken_in}
-use Rattle.link_model.specs.Sends.{data_place, observed_at}
+use Rattle.link_model.specs.Sends.{observed_at}
 
 -- whether an edge was captured, in each tick since the last reset, where tick t comes next
 abbrev pub edges_before : Plan → Device → ℕ → List Bool
@@ -46,7 +45,8 @@ IsNear k i t = k.timing.sysref_start + i * k.timing.sysref_period ≤ t + 2
 abbrev pub no_cell : LaneCell
 no_cell = record { value = 0; mark = Good }
 
--- a column: what each lane gave in one tick; the columns of a session, oldest first
+-- a column: an octet of each lane, each with its cell's mark; the columns of a session, oldest
+-- first
 abbrev pub Columns : Type 0
 Columns = List (List LaneCell)
 
@@ -102,18 +102,38 @@ abbrev pub decisions_before : Plan → History → List (List LaneReport)
 decisions_before s h = points (drop (reset_before s Rx (length h)) h)
 
 -- the entries that came into a lane's elastic buffer in the session of the last tick
-abbrev pub entries_now : Plan → History → ℕ → List Entry
-entries_now s h lane = entries_b s.link.params s.link.timing lane (taken_in (current h) lane)
+abbrev pub entries_now : LaneKind → Plan → History → ℕ → List Entry
+entries_now k s h lane = k.entries s.link.params s.link.timing lane (taken_in (current h) lane)
 
--- the data that a lane gave in it
-abbrev pub cells_now : Plan → History → ℕ → List LaneCell
-cells_now s h lane = cells_in (take (gives_in (current h)) (entries_now s h lane))
+-- the octets that a lane gave in the session of the last tick, each with its cell's mark
+abbrev pub octets_now : LaneKind → Plan → History → ℕ → List LaneCell
+octets_now k s h lane =
+    octets_given s.link.params (gives_in (current h)) (entries_now k s h lane)
 
--- and what all lanes gave, tick by tick
-unfoldable pub columns_now : Plan → History → Columns
-columns_now s h =
-    map (λ i. map (λ lane. get_or (cells_now s h lane) i no_cell) (numbers_from 0 s.link.params.l))
-    (numbers_from 0 (length (cells_now s h 0)))
+-- and those of all lanes, octet by octet
+unfoldable pub columns_now : LaneKind → Plan → History → Columns
+columns_now k s h =
+    map (λ i. map (λ lane. get_or (octets_now k s h lane) i no_cell) (numbers_from 0 s.link.params.l))
+    (numbers_from 0 (length (octets_now k s h 0)))
+
+-- the octet columns of a tick in which each lane gives one of these cells
+abbrev pub octet_columns : Params → List LaneCell → Columns
+octet_columns p column =
+    map (λ j. map (λ c. get_or (octets_in p c) j no_cell) column)
+    (numbers_from 0 (octets_per_tick p))
+
+abbrev pub values_of : List LaneCell → List ℕ
+values_of cells = map (λ c. c.value) cells
+
+-- the frames that are whole with these columns and were not with the first `before` of them; end:
+-- the octet time after the last column
+abbrev pub delivered_at : Params → ℕ → ℕ → Columns → List Delivered
+delivered_at p end before columns =
+    map (λ n. record {
+      left = end + n * p.f - length columns;
+      mark = mark_of (cells_of p columns n p.f);
+      words = words_of p (values_of (cells_of p columns n p.f));
+    }) (numbers_from (before / p.f) (length columns / p.f - before / p.f))
 
 -- the levels of SYNC~ as the transmitter sees them, in each tick up to the one after these levels:
 -- true where it is low
@@ -123,15 +143,3 @@ seen_of delay lows = take (length lows + 1) (replicate (delay + 1) true ++ lows)
 -- the levels of SYNC~ after each tick: true where it is low
 abbrev pub levels_after : History → List Bool
 levels_after h = map (λ m. is_hunting m.stage) h
-
--- the orders of 8b/10b lanes
-abbrev pub IsOrderB : TxOrder → Type 0
-IsOrderB Comma = Unit {0}
-IsOrderB (Ilas x) = Unit {0}
-IsOrderB (Data x first) = Unit {0}
-IsOrderB Silent = ⊥
-IsOrderB (Block x first) = ⊥
-
--- the place in its frame of the octets that go with an order, where it is data
-abbrev pub frame_place : Params → TxOrder → Option ℕ
-frame_place p order = option_map (λ x. x % p.f) (data_place order)

@@ -1,16 +1,13 @@
 -- What a lane of a run went through, for lemmas about a history; the definition of a run does not
 -- need it.
 -- Code: what the two ends of a lane and its line keep.
-use Rattle.std.specs.Prelude.{ℕ, ◌+◌, ◌-◌, ◌*◌, Bool, false, if◌then◌else◌, List, [], ◌∷◌, ◌++◌, length, get_or, slice_index, Option, Some, None, drop}
-use Rattle.link_params.specs.declared.fields.Params.{Params}
+use Rattle.std.specs.Prelude.{ℕ, ◌+◌, ◌-◌, ◌*◌, Bool, false, if◌then◌else◌, List, [], ◌∷◌, ◌++◌, length, get_or, Option, drop}
 use Rattle.link_params.specs.declared.orders.TxOrder.{TxOrder}
 use Rattle.link_params.specs.declared.orders.RxOrder.{RxOrder}
 use Rattle.link_params.specs.declared.cells.LaneCell.{LaneCell}
 use Rattle.link_params.specs.Numbers.{width}
-use Rattle.link_params.specs.Lanes.{Handed, Placed, Taken}
+use Rattle.link_params.specs.Lanes.{Handed, LaneKind, Placed, Taken}
 use Rattle.line_model.specs.LineBits.{line_word}
-use Rattle.lane_b.specs.Sent.{sent_b}
-use Rattle.lane_b.specs.Received.{entries_b, lanes_b}
 use Rattle.lane_b.specs.Gives.{given}
 use Rattle.scenario.specs.Plans.{Plan}
 use Rattle.link_params.specs.declared.alarms.Device.TheVariants.{Tx}
@@ -58,8 +55,8 @@ lane_ready s h lane = record {
 }
 
 -- and once the tick was sent and taken
-abbrev pub lane_stepped : Plan → History → ℕ → LaneRun
-lane_stepped s h lane = let more = h ++ moment lanes_b s h ∷ [] in record {
+abbrev pub lane_stepped : LaneKind → Plan → History → ℕ → LaneRun
+lane_stepped k s h lane = let more = h ++ moment k s h ∷ [] in record {
   handed = handed_in (drop (last_reset s Tx (length h)) more) lane;
   sent = sent_bits more lane;
   delay = delay_at s lane (length h);
@@ -70,24 +67,25 @@ lane_stepped s h lane = let more = h ++ moment lanes_b s h ∷ [] in record {
 
 -- what was handed, with a tick more
 abbrev pub handed_with : LaneRun → TxOrder → ℕ → List Handed
-handed_with x order octet = x.handed ++ (record { order = order; octets = octet }) ∷ []
+handed_with x order octets = x.handed ++ (record { order = order; octets = octets }) ∷ []
 
 -- the bits that are sent in it
-abbrev pub bits_with : Plan → ℕ → LaneRun → TxOrder → ℕ → List Bool
-bits_with s lane x order octet = last_of [] (sent_b s.link.params lane (handed_with x order octet))
+abbrev pub bits_with : LaneKind → Plan → ℕ → LaneRun → TxOrder → ℕ → List Bool
+bits_with k s lane x order octets =
+    last_of [] (k.sends s.link.params lane (handed_with x order octets))
 
 -- the bits that are received in it
-abbrev pub word_with : Plan → ℕ → LaneRun → TxOrder → ℕ → List Bool
-word_with s lane x order octet =
-    line_word (width s.link.params) (x.sent ++ bits_with s lane x order octet)
+abbrev pub word_with : LaneKind → Plan → ℕ → LaneRun → TxOrder → ℕ → List Bool
+word_with k s lane x order octets =
+    line_word (width s.link.params) (x.sent ++ bits_with k s lane x order octets)
     (inverted_bits s lane (width s.link.params * s.ticks)) x.delay x.dead
 
 -- a tick more
-abbrev pub stepped : Plan → ℕ → LaneRun → TxOrder → ℕ → RxOrder → LaneRun
-stepped s lane x order octet told =
-    let y : Taken = record { order = told; word = word_with s lane x order octet } in record {
-      handed = handed_with x order octet;
-      sent = x.sent ++ bits_with s lane x order octet;
+abbrev pub stepped : LaneKind → Plan → ℕ → LaneRun → TxOrder → ℕ → RxOrder → LaneRun
+stepped k s lane x order octets told =
+    let y : Taken = record { order = told; word = word_with k s lane x order octets } in record {
+      handed = handed_with x order octets;
+      sent = x.sent ++ bits_with k s lane x order octets;
       delay = x.delay;
       dead = x.dead;
       taken = if told.hunt then y ∷ [] else x.taken ++ y ∷ [];
@@ -106,18 +104,12 @@ no_run s = record {
       0;
 }
 
--- the octet that a lane is handed from a frame's octets; at: the place in the frame, where the tick
--- is data
-abbrev pub octet_handed : Params → List ℕ → Option ℕ → ℕ → ℕ
-octet_handed p octets None lane = 0
-octet_handed p octets (Some at) lane = slice_index octets (lane * p.f + at)
-
 -- what each lane holds, and what each one gives next
-abbrev pub held_by : Plan → (ℕ → LaneRun) → ℕ → ℕ
-held_by s runs lane = length (entries_b s.link.params s.link.timing lane (runs lane).taken)
+abbrev pub held_by : LaneKind → Plan → (ℕ → LaneRun) → ℕ → ℕ
+held_by k s runs lane = length (k.entries s.link.params s.link.timing lane (runs lane).taken)
     - (runs lane).gave
 
-abbrev pub given_by : Plan → (ℕ → LaneRun) → ℕ → Option LaneCell
-given_by s runs lane =
-    given (get_or (entries_b s.link.params s.link.timing lane (runs lane).taken)
+abbrev pub given_by : LaneKind → Plan → (ℕ → LaneRun) → ℕ → Option LaneCell
+given_by k s runs lane =
+    given (get_or (k.entries s.link.params s.link.timing lane (runs lane).taken)
     (runs lane).gave Placed)

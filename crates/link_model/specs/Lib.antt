@@ -12,3 +12,4 @@ pub mod Gives
 pub mod Run
 pub mod Sessions
 pub mod HistoryLaws
+pub mod Kinds
