@@ -1,10 +1,6 @@
-pub mod ColumnHistory
 pub mod DecisionCases
-pub mod DeliveryHistory
 pub mod Depth
 pub mod EdgeTicks
-pub mod EntryCells
-pub mod FrameCells
 pub mod LaneDepth
 pub mod LaneHistory
 pub mod NextMoment

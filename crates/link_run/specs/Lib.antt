@@ -1,6 +1,7 @@
 pub mod Clocked
 pub mod Seen
 pub mod Sendings
+pub mod LaneEnds
 pub mod LaneRuns
 pub mod Gathered
 pub mod Printing

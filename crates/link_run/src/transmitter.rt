@@ -39,6 +39,7 @@ pub struct Transmitter {
 }
 
 impl Model for Transmitter {
+    ghost use Rattle.std.specs.Prelude.{◌≡◌, length};
     ghost use Rattle.link_run.specs.Transmitters.{TxEnd};
 
     ghost Value = { TxEnd };
