@@ -1,5 +1,6 @@
 pub mod Clocked
 pub mod Seen
+pub mod Alignments
 pub mod Sendings
 pub mod LaneEnds
 pub mod LaneRuns

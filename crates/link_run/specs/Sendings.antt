@@ -1,6 +1,6 @@
 -- Where a transmitter stands after what it observed since its reset.
 -- Code: a state and one place.
-use Rattle.std.specs.Prelude.{◌≡◌, ℕ, suc, ◌+◌, ◌*◌, ◌%◌, ◌<◌, true, false, Bool, List, [], ◌∷◌, ◌++◌, length, Option, Some, None, option_map}
+use Rattle.std.specs.Prelude.{◌≡◌, ℕ, suc, ◌+◌, ◌%◌, true, false, Bool, List, [], ◌∷◌, ◌++◌, length, Option, Some, None, option_map}
 use Rattle.link_params.specs.declared.fields.Params.{Params}
 use Rattle.link_params.specs.declared.orders.TxOrder.{TxOrder}
 use Rattle.link_params.specs.Laws.{is_b}
@@ -8,18 +8,19 @@ use Rattle.link_params.specs.Numbers.{period}
 use Rattle.lane_b.specs.Senders.{Follows as FollowsB}
 use Rattle.lane_c.specs.Senders.{Follows as FollowsC}
 use Rattle.link_run.specs.declared.sending.Sending.{Sending}
-use Rattle.link_run.specs.declared.sending.Sending.TheVariants.{Idle, Synchronizing, Aligning, Streaming, Silent, Blocks}
-use Rattle.link_model.specs.Orders.{Observed, after_low, from_edge, since_boundary, tx_order}
+use Rattle.link_run.specs.declared.sending.Sending.TheVariants.{Octets, Blocks}
+use Rattle.link_model.specs.Orders.{Observed, from_edge, order_c, tx_order}
 use Rattle.link_model.specs.Sends.{data_place}
+use Rattle.link_run.specs.Alignments.{HasObserved as HasObservedB, next_of as next_of_octets}
+
+-- the place of the next block, once one was sent
+abbrev pub next_of_blocks : Params → Option ℕ → Option ℕ
+next_of_blocks p last = option_map (λ x. suc x % period p) last
 
 -- the place of the next data, while data goes on
 abbrev pub next_of : Params → Sending → Option ℕ
-next_of p Idle = None
-next_of p Synchronizing = None
-next_of p (Aligning x) = None
-next_of p (Streaming x) = Some (suc x % period p)
-next_of p Silent = None
-next_of p (Blocks x) = Some (suc x % period p)
+next_of p (Octets a) = next_of_octets p a
+next_of p (Blocks last) = next_of_blocks p last
 
 -- the same after a tick with this order
 abbrev pub next_after : Params → TxOrder → Option ℕ
@@ -33,22 +34,16 @@ FollowsOn false p next order = FollowsC next order
 abbrev pub Follows : Params → Option ℕ → TxOrder → Type 0
 Follows p next order = FollowsOn (is_b p.mode) p next order
 
--- an 8b/10b transmitter has seen SYNC~ low since its reset
-abbrev pub HasSeenLow : Params → List Observed → Type 0
-HasSeenLow p observed =
-    (is_b p.mode ≡ true) × ((later : List Observed) × (after_low observed ≡ Some later))
+-- the ticks since the first edge, that of the last block the last one
+abbrev pub HasObservedC : Option ℕ → Params → List Observed → Type 0
+HasObservedC None p observed = from_edge observed ≡ []
+HasObservedC (Some x) p observed =
+    (n : ℕ) × (length (from_edge observed) ≡ suc n) × (x ≡ n % period p)
 
 -- the transmitter has observed these ticks since its reset
 abbrev pub HasObserved : Sending → Params → List Observed → Type 0
-HasObserved Idle p observed = (is_b p.mode ≡ true) × (after_low observed ≡ None)
-HasObserved Synchronizing p observed = HasSeenLow p observed × (since_boundary observed ≡ [])
-HasObserved (Aligning x) p observed = HasSeenLow p observed
-    × (length (since_boundary observed) ≡ suc x) × (x < 4 * period p)
-HasObserved (Streaming x) p observed = HasSeenLow p observed
-    × ((n : ℕ) × (length (since_boundary observed) ≡ 4 * period p + suc n) × (x ≡ n % period p))
-HasObserved Silent p observed = (is_b p.mode ≡ false) × (from_edge observed ≡ [])
-HasObserved (Blocks x) p observed = (is_b p.mode ≡ false)
-    × ((n : ℕ) × (length (from_edge observed) ≡ suc n) × (x ≡ n % period p))
+HasObserved (Octets a) p observed = (is_b p.mode ≡ true) × HasObservedB a p observed
+HasObserved (Blocks last) p observed = (is_b p.mode ≡ false) × HasObservedC last p observed
 
 -- a tick in which this is observed has this order, and takes a transmitter that has observed these
 -- ticks from one place to the other
@@ -58,3 +53,13 @@ pub record GoesOnTo (before after : Sending) (p : Params) (observed : List Obser
   pub goes_on : HasObserved after p (observed ++ h ∷ [])
   pub follows : Follows p (next_of p before) order
   pub next : next_of p after ≡ next_after p order
+
+-- the same of blocks, at this phase, whatever level is seen
+pub record BlocksGoOn (before after : Option ℕ) (p : Params) (observed : List Observed)
+    (phase : Option ℕ) (order : TxOrder) : Type 0 where
+  pub due : HasObservedC before p observed → (low : Bool) → order
+      ≡ order_c p (observed ++ (record { phase = phase; low = low }) ∷ [])
+  pub goes_on : HasObservedC before p observed → (low : Bool) → HasObservedC after p
+      (observed ++ (record { phase = phase; low = low }) ∷ [])
+  pub follows : HasObservedC before p observed → FollowsC (next_of_blocks p before) order
+  pub next : next_of_blocks p after ≡ next_after p order

@@ -6,6 +6,7 @@
 //! ```
 #![tactic(auto)]
 
+mod alignment;
 mod deframer;
 mod device_clock;
 mod events;

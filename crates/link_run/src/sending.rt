@@ -1,30 +1,23 @@
 //! What the transmitter sends, tick by tick.
-ghost use Rattle.std.specs.Prelude.{◌≡◌, ◌≤◌, ◌<◌, ◌+◌, ◌%◌, ◌++◌, ◌∷◌, [], false, List, None, IfSome};
+ghost use Rattle.std.specs.Prelude.{◌≡◌, ◌≤◌, ◌<◌, [], List, None, IfSome};
 ghost use Rattle.link_params.specs.declared.fields.Params.{Params as ParamsValue};
-ghost use Rattle.link_params.specs.declared.orders.TxOrder.TheVariants as order;
 ghost use Rattle.link_params.specs.Numbers.{period as period_of};
 ghost use Rattle.link_model.specs.Orders.{Observed};
 ghost use Rattle.link_model.specs.Sends.{data_place};
-ghost use Rattle.link_run.specs.Sendings.{GoesOnTo, HasObserved, next_of};
+ghost use Rattle.link_run.specs.Sendings.{BlocksGoOn, GoesOnTo, HasObserved, next_of};
 
+use crate::alignment::{Alignment, place_after};
 use link_params::{Mode, TxOrder};
 
-/// Where a transmitter stands (JESD204B.01 clauses 5.3.3.1, code group synchronization, and
-/// 5.3.3.5, initial lane alignment; JESD204C.1, 64b/66b link layer).
+/// Where a transmitter stands.
 #[derive(Clone, Copy, Debug, PartialEq, Eq)]
 pub enum Sending {
-    /// 8b/10b: it has not seen SYNC~ low since its reset, and sends /K/.
-    Idle,
-    /// 8b/10b: it has seen SYNC~ low, and sends /K/ until the next boundary at which it is high.
-    Synchronizing,
-    /// 8b/10b: it sent this place of the alignment sequence.
-    Aligning(u32),
-    /// 8b/10b: it sent data at this place of a multiframe.
-    Streaming(u32),
-    /// 64b/66b: it captured no SYSREF edge since its reset, and sends zero bits.
-    Silent,
-    /// 64b/66b: it sent the block at this place of an extended multiblock.
-    Blocks(u32),
+    /// 8b/10b lanes.
+    Octets(Alignment),
+    /// 64b/66b lanes (JESD204C.1, 64b/66b link layer): the place of the last block in its extended
+    /// multiblock. Before the first SYSREF edge since the reset there is none, and zero bits are
+    /// sent.
+    Blocks(Option<u32>),
 }
 
 impl Sending {
@@ -34,8 +27,8 @@ impl Sending {
         ensures next { (p : ParamsValue) → next_of p result ≡ None }
     {
         match mode {
-            Mode::B => Sending::Idle,
-            Mode::CCrc | Mode::CFec => Sending::Silent,
+            Mode::B => Sending::Octets(Alignment::new()),
+            Mode::CCrc | Mode::CFec => Sending::Blocks(None),
         }
     }
 
@@ -49,64 +42,41 @@ impl Sending {
             → GoesOnTo self.old self.new p observed (record { phase = phase; low = low }) result }
         ensures place { IfSome (data_place result) (λ x. x < period) }
     {
-        let (sending, order) = self.next(period, phase, low);
-        *self = sending;
-        order
-    }
-
-    // Where it stands after the next tick, and the order of the tick.
-    fn next(self, period: u32, phase: Option<u32>, low: bool) -> (Sending, TxOrder)
-        requires short { 1 ≤ period }
-        requires long { period ≤ 1024 }
-        ensures goes_on { (p : ParamsValue) (observed : List Observed) → period_of p ≡ period
-            → HasObserved self p observed
-            → GoesOnTo self result.0 p observed (record { phase = phase; low = low }) result.1 }
-        ensures place { IfSome (data_place result.1) (λ x. x < period) }
-    {
         match self {
-            Sending::Silent => match phase {
-                Some(_) => (Sending::Blocks(0), block_at(0, true)),
-                None => (Sending::Silent, TxOrder::Silent),
-            },
-            Sending::Blocks(x) => {
-                let place = place_after(x, period);
-                (Sending::Blocks(place), block_at(place, false))
-            }
-            _ if low => (Sending::Synchronizing, TxOrder::Comma),
-            Sending::Idle => (Sending::Idle, TxOrder::Comma),
-            Sending::Synchronizing if phase == Some(0) => (Sending::Aligning(0), TxOrder::Ilas(0)),
-            Sending::Synchronizing => (Sending::Synchronizing, TxOrder::Comma),
-            Sending::Aligning(x) if x < 4 * period - 1 => {
-                (Sending::Aligning(x + 1), TxOrder::Ilas(x + 1))
-            }
-            Sending::Aligning(_) => (Sending::Streaming(0), data_at(0, true)),
-            Sending::Streaming(x) => {
-                let place = place_after(x, period);
-                (Sending::Streaming(place), data_at(place, false))
+            Sending::Octets(alignment) => alignment.tick(period, phase, low),
+            Sending::Blocks(last) => {
+                let (place, order) = next_block(*last, period, phase);
+                *last = place;
+                order
             }
         }
     }
 }
 
-// Data of an 8b/10b lane at this place of a multiframe.
-fn data_at(place: u32, first: bool) -> TxOrder
-    ensures { result ≡ order.Data place first }
+// The place and the order of a 64b/66b lane's next tick.
+fn next_block(last: Option<u32>, period: u32, phase: Option<u32>) -> (Option<u32>, TxOrder)
+    requires short { 1 ≤ period }
+    requires long { period ≤ 1024 }
+    ensures goes_on { (p : ParamsValue) (observed : List Observed) → period_of p ≡ period
+        → BlocksGoOn last result.0 p observed phase result.1 }
+    ensures place { IfSome (data_place result.1) (λ x. x < period) }
 {
-    TxOrder::Data { place, first }
-}
-
-// The block at this place of an extended multiblock.
-fn block_at(place: u32, first: bool) -> TxOrder
-    ensures { result ≡ order.Block place first }
-{
-    TxOrder::Block { place, first }
-}
-
-// The place after place x of a period.
-fn place_after(x: u32, period: u32) -> u32
-    requires { 1 ≤ period }
-    ensures next { x < period → result ≡ (x + 1) % period }
-    ensures below { result < period }
-{
-    if x < period - 1 { x + 1 } else { 0 }
+    match last {
+        Some(x) => {
+            let place = place_after(x, period);
+            let order = TxOrder::Block {
+                place,
+                first: false,
+            };
+            (Some(place), order)
+        }
+        None if phase.is_some() => {
+            let order = TxOrder::Block {
+                place: 0,
+                first: true,
+            };
+            (Some(0), order)
+        }
+        None => (None, TxOrder::Silent),
+    }
 }

@@ -1,25 +1,11 @@
-use Rattle.link_run.proofs.OrderLemmas.{seen_low}
+use Rattle.std.proofs.Common.{rules, ◌≡◌, ◌≤◌, ◌<◌, [], List, None, IfSome, ℕ, ◌+◌, ◌-◌, ◌*◌, length, ◌/◌, ◌%◌, Bool, true, false, nat_eq, nat_lt, ◌∷◌, ◌++◌, slice_index_or, slice_set, bit_and, bit_or, Fits, w8, w32, w64, Bor, MutBor}
+use Rattle.link_params.specs.declared.fields.Params.{Params as ParamsValue}
+use Rattle.link_params.specs.Numbers.{period as period_of}
+use Rattle.link_model.specs.Orders.{Observed}
+use Rattle.link_model.specs.Sends.{data_place}
+use Rattle.link_run.specs.Sendings.{BlocksGoOn, GoesOnTo, HasObserved, next_of}
 use Rattle.link_run.proofs.sending.Sending.tick.Goals as goal
 
-pub returns-then-low-clause-order : goal.returns-then-low-clause-order
-returns-then-low-clause-order c = λ p observed b same was. (seen_low p observed _ b c.if-low.true).0
-
-pub returns-then-low-clause-goes_on : goal.returns-then-low-clause-goes_on
-returns-then-low-clause-goes_on c =
-    λ p observed b same was. (seen_low p observed _ b c.if-low.true).1
-
-pub returns-clause-order : goal.returns-clause-order
-returns-clause-order c =
-    rw c.if-low.false (λ p observed b same was. (c.next-sending.ensures p observed b same was).due)
-
-pub returns-clause-goes_on : goal.returns-clause-goes_on
-returns-clause-goes_on c =
-    rw c.if-low.false
-    (λ p observed b same was. (c.next-sending.ensures p observed b same was).goes_on)
-
-pub returns-clause-follows : goal.returns-clause-follows
-returns-clause-follows c =
-    λ p observed b same was. (c.next-sending.ensures p observed b same was).follows
-
-pub returns-clause-next : goal.returns-clause-next
-returns-clause-next c = λ p observed b same was. (c.next-sending.ensures p observed b same was).next
+-- src/sending.rt:37:5
+pub returns-in-Blocks-clause-goes_on : goal.returns-in-Blocks-clause-goes_on
+returns-in-Blocks-clause-goes_on c = ?
