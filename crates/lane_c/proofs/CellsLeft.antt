@@ -44,7 +44,7 @@ known-is mode x bs n i is le =
     ∙ known-at mode x bs n m (i / 32) (i % 32) is (omega arith) (omega arith) (omega arith)
 
 -- less than 64 of n blocks are not known
-known-many : (mode : Mode) (x : Place) (bs : List Bool) (n : ℕ)
+pub known-many : (mode : Mode) (x : Place) (bs : List Bool) (n : ℕ)
     → (length bs - x.first) / 66 ≡ n → 32 ≤ n → n < length (known_blocks mode x bs) + 64
 known-many mode x bs n is le =
     let m : ℕ = n / 32 - 1 in

@@ -93,7 +93,7 @@ module _ (s : Plan) (lane : ℕ) (read : IsPlanRead s) (mode : s.link.params.mod
       let same = delay-stays y (omega arith) up in
       let flips = inverted_bits s lane (width s.link.params * s.ticks) in
       let front : length sent - 10 ≡ 10 * y = omega arith in
-      taken-lane s (run lanes_b s y) lane below
+      taken-lane lanes_b s (run lanes_b s y) lane below
       ∙ ap (λ (n : ℕ). received s lane n sent) tick
       ∙ ap (λ (w : ℕ). line_word w sent flips (delay_at s lane y) (is_dead s lane y)) ten
       ∙ ap₂ (λ (d : ℕ) (b : Bool). line_word 10 sent flips d b) same (alive y above up)
@@ -144,7 +144,7 @@ module _ (s : Plan) (lane : ℕ) (read : IsPlanRead s) (mode : s.link.params.mod
       let sent : List Bool = sent_bits (run lanes_b s v) lane
       ++ get_or (at lanes_b s v).sent lane [] in
       let tick : ℕ = length (run lanes_b s v) in
-      ap length (taken-lane s (run lanes_b s v) lane below)
+      ap length (taken-lane lanes_b s (run lanes_b s v) lane below)
       ∙ length-word (width s.link.params) sent
       (inverted_bits s lane (width s.link.params * s.ticks)) (delay_at s lane tick)
       (is_dead s lane tick) ∙ ten

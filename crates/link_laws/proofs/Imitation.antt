@@ -17,7 +17,7 @@ use Rattle.scenario.specs.Plans.{Plan}
 use Rattle.link_model.specs.Edges.{last_reset}
 use Rattle.link_model.specs.Moments.{History, Moment}
 use Rattle.link_model.specs.Run.{run}
-use Rattle.link_model.proofs.TxHistory.{length-run, run-more}
+use Rattle.link_model.proofs.RunTicks.{length-run, run-suc}
 use Rattle.link_model.proofs.NextMoment.{next}
 use Rattle.link_laws.specs.Laws.{IsPlanRead, NoImitation, NoImitationAcross}
 use Rattle.link_laws.proofs.SentSpellings.{AreSpelled, IsSpelled, sends-spelling}
@@ -49,19 +49,19 @@ sent_from s lane from t = flat_map (λ (m : Moment). get_or m.sent lane [])
 
 sent-from-suc : (s : Plan) (lane from t : ℕ) → from ≤ t
     → sent_from s lane from (suc t) ≡ sent_from s lane from t
-    ++ get_or (next s (run lanes_b s t)).sent lane []
+    ++ get_or (next lanes_b s (run lanes_b s t)).sent lane []
 sent-from-suc s lane from t low =
     let of : Moment → List Bool = λ m. get_or m.sent lane [] in
     let h : History = run lanes_b s t in
-    let long = length-run t s in
-    ap (λ (l : History). flat_map of (drop from l)) (run-more t s)
-    ∙ ap (flat_map of) (drop-append-le from h (next s h ∷ []) (omega arith))
-    ∙ flat_map-append of (drop from h) (next s h ∷ [])
-    ∙ ap (λ (bs : List Bool). sent_from s lane from t ++ bs) (append-nil (of (next s h)))
+    let long = length-run lanes_b s t in
+    ap (λ (l : History). flat_map of (drop from l)) (run-suc lanes_b s t)
+    ∙ ap (flat_map of) (drop-append-le from h (next lanes_b s h ∷ []) (omega arith))
+    ∙ flat_map-append of (drop from h) (next lanes_b s h ∷ [])
+    ∙ ap (λ (bs : List Bool). sent_from s lane from t ++ bs) (append-nil (of (next lanes_b s h)))
 
 sent-from-late : (s : Plan) (lane from t : ℕ) → t ≤ from → sent_from s lane from t ≡ []
 sent-from-late s lane from t late =
-    let long = length-run t s in
+    let long = length-run lanes_b s t in
     ap (flat_map (λ (m : Moment). get_or m.sent lane []))
     (drop_all from (run lanes_b s t) (omega arith))
 

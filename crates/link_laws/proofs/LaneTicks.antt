@@ -74,13 +74,13 @@ report-is s lane u below =
     let r : History = run lanes_b s u in
     let n = length-numbers s.link.params.l 0 in
     let same : 0 + lane ≡ lane = omega arith in
-    let f : ℕ → LaneReport = λ l. report_b s.link.params s.link.timing l (took s r l) in
-    let taken : took s r lane ≡ taken_at lanes_b s lane u =
+    let f : ℕ → LaneReport = λ l. report_b s.link.params s.link.timing l (took lanes_b s r l) in
+    let taken : took lanes_b s r lane ≡ taken_at lanes_b s lane u =
     ap (λ (o : RxOrder). taken_in (session s r) lane
     ++ (record { order = o; word = get_or (at lanes_b s u).taken lane [] }) ∷ [])
     (sym (told-at lanes_b s u))
     ∙ sym (taken-in-more (session s r) (at lanes_b s u) lane) in
-    ap (λ l. get_or l lane no_report) (reports-next s r)
+    ap (λ l. get_or l lane no_report) (reports-next lanes_b s r)
     ∙ get_or-map f (numbers_from 0 s.link.params.l) lane 0 no_report (omega arith)
     ∙ ap f (get_or-numbers s.link.params.l lane 0 0 below ∙ same)
     ∙ ap (report_b s.link.params s.link.timing lane) taken

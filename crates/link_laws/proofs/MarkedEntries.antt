@@ -14,6 +14,7 @@ use Rattle.link_params.specs.declared.fields.Params.{Params}
 use Rattle.link_params.specs.declared.fields.Timing.{Timing}
 use Rattle.link_params.specs.Lanes.{Entry, Held, Placed, Taken}
 use Rattle.link_params.specs.Numbers.{octets_per_tick}
+use Rattle.link_params.specs.Laws.{is_b}
 use Rattle.link_params.proofs.LawFacts.{legal_sizes}
 use Rattle.code_8b10b.specs.declared.character.Reading.{Reading}
 use Rattle.lane_b.specs.Locking.{Lock, lock, since_start, start_of}
@@ -23,6 +24,7 @@ use Rattle.scenario.specs.Plans.{Plan, numbers_from}
 use Rattle.link_model.specs.Before.{no_cell}
 use Rattle.link_model.specs.Gives.{octets_in}
 use Rattle.link_model.specs.Run.{run}
+use Rattle.link_model.proofs.FactsB.{facts-b}
 use Rattle.link_model.proofs.NextMoment.{took}
 use Rattle.link_model.proofs.WindowFacts.{legal}
 use Rattle.link_model.proofs.Depth.{depth-run, tick-outcome}
@@ -166,12 +168,13 @@ pub marked-b : (s : Plan) → IsPlanRead s → s.link.params.mode ≡ B → AreM
 marked-b s read mode t lane j below runs inside =
     let p = s.link.params in
     let h = run lanes_b s t in
-    let o = tick-outcome s h lane mode (legal p s.link.timing read.laws read.timing mode) below
-    (depth-run t s lane read.laws read.timing mode below) in
+    let facts = facts-b p s.link.timing (ap is_b mode) in
+    let o = tick-outcome lanes_b s h lane facts (legal p s.link.timing read.laws read.timing) below
+    (depth-run lanes_b t s lane facts read.laws read.timing below) in
     let more = o.gives runs in
     let some = (legal_sizes p read.laws).f_low in
-    let taken : taken_at lanes_b s lane t ≡ took s h lane = took-is lanes_b s t lane in
-    rw taken (entries-marked p s.link.timing lane (took s h lane) j mode some (omega arith))
+    let taken : taken_at lanes_b s lane t ≡ took lanes_b s h lane = took-is lanes_b s t lane in
+    rw taken (entries-marked p s.link.timing lane (took lanes_b s h lane) j mode some (omega arith))
 
 pub marks-b : (s : Plan) → IsPlanRead s → s.link.params.mode ≡ B → Marks lanes_b checked_b s
 marks-b s read mode =

@@ -1,7 +1,7 @@
 -- What an 8b/10b lane sends in each tick: the spelling of a character, in one chain of disparities
 -- since the transmitter's reset.
 use Rattle.std.proofs.Common.{◌≡◌, ℕ, zero, suc, ◌+◌, ◌-◌, ◌*◌, ◌/◌, ◌%◌, ◌^◌, ◌<◌, ◌≤◌, if◌then◌else◌, Bool, true, false, List, [], ◌∷◌, ◌++◌, length, map, drop, take, get_or, ◌==◌, ◌&&◌, nat_le, Option, Some, None, unwrap_or, IsSome, inl, inr, refl, sym, subst, ap, ◌∙◌, length-append, length-drop, length-take-le, arith}
-use Rattle.std.specs.List.{flat_map, slice_index, range_with_len}
+use Rattle.std.specs.List.{flat_map, slice_index}
 use Rattle.std.proofs.lemmas.Bool.{cases_Bool}
 use Rattle.std.proofs.lemmas.List.{map-append, drop-map}
 use Rattle.jesd_base.specs.Bits.{bits, value}
@@ -14,7 +14,6 @@ use Rattle.link_params.specs.declared.orders.TxOrder.TheVariants.{Comma, Ilas, D
 use Rattle.link_params.specs.Lanes.{Handed}
 use Rattle.link_params.specs.Config.{config_octets, one_if}
 use Rattle.link_params.proofs.ConfigFacts.{config_octets-is}
-use Rattle.sample_map.specs.Frames.{bit_due, frame_of, octet_due}
 use Rattle.code_8b10b.specs.declared.character.Rd.{Rd}
 use Rattle.code_8b10b.specs.declared.character.Rd.TheVariants.{Minus}
 use Rattle.code_8b10b.specs.declared.character.Char.{Char}
@@ -33,36 +32,20 @@ use Rattle.lane_b.proofs.Spelled.{comma-spelled, due-spelled, ilas-spelled}
 use Rattle.lane_b.proofs.SentWords.{rd_after-more, sent_words-more}
 use Rattle.scenario.specs.Plans.{Plan}
 use Rattle.link_model.specs.Edges.{is_reset, last_reset}
-use Rattle.link_model.specs.LaneRuns.{octet_handed}
 use Rattle.link_model.specs.Moments.{History, Moment}
 use Rattle.link_model.specs.Sends.{handed_since, last_of, sent_by}
 use Rattle.link_model.specs.Run.{run}
-use Rattle.link_model.specs.Before.{frame_place}
 use Rattle.link_model.proofs.LaneHistory.{sent-lane}
-use Rattle.link_model.proofs.TxHistory.{drop-reset-before, handed-next-b, last-reset-before}
+use Rattle.link_model.proofs.TxHistory.{drop-reset-before, last-reset-before}
 use Rattle.link_model.specs.Sessions.{at}
 use Rattle.link_laws.specs.Laws.{IsPlanRead}
+use Rattle.link_laws.proofs.SmallOctets.{handed-small}
 use Rattle.link_model.proofs.RunTicks.{length-run, run-suc}
 
 -- ---- octets
 
 value-eight : (bs : List Bool) → length bs ≡ 8 → value bs < 256
 value-eight bs e = let v = value_below bs in let p : 2 ^ length bs ≡ 256 = rw e refl in omega arith
-
-map-small : (l : List ℕ) (f : ℕ → ℕ) → ((x : ℕ) → f x < 256) → (k : ℕ) → get_or (map f l) k 0 < 256
-map-small [] f small k = omega arith
-map-small (x ∷ l) f small zero = small x
-map-small (x ∷ l) f small (suc k) = map-small l f small k
-
-frame-small : (p : Params) (words : List ℕ) (k : ℕ) → get_or (frame_of p words) k 0 < 256
-unfolding frame_of
-frame-small p words k = map-small (range_with_len 0 (p.l * p.f)) (octet_due p words)
-    (λ x. value-eight (map (λ j. bit_due p words (8 * x + j) == 1) (range_with_len 0 8)) refl) k
-
-handed-small : (p : Params) (words : List ℕ) (place : Option ℕ) (lane : ℕ)
-    → octet_handed p (frame_of p words) place lane < 256
-handed-small p words None lane = omega arith
-handed-small p words (Some x) lane = frame-small p words (lane * p.f + x)
 
 abbrev pub AreSmall : List ℕ → Type 0
 AreSmall xs = (k : ℕ) → get_or xs k 0 < 256
@@ -261,8 +244,7 @@ module _ (s : Plan) (lane : ℕ) (read : IsPlanRead s) (mode : s.link.params.mod
   word_sent q = unwrap_or (spelling (rd_sent q) (char_sent q)) 0
 
   pub octet-small : (q : ℕ) → slice_index (at lanes_b s q).handed lane < 256
-  octet-small q = rw (handed-next-b s (run lanes_b s q) lane mode below)
-      (handed-small s.link.params _ (frame_place s.link.params (at lanes_b s q).order) lane)
+  octet-small q = handed-small s (run lanes_b s q) lane mode
 
   all-small : (q : ℕ)
       → HandedSmall
@@ -315,7 +297,7 @@ module _ (s : Plan) (lane : ℕ) (read : IsPlanRead s) (mode : s.link.params.mod
   pub bits-sent : (q : ℕ) → get_or (at lanes_b s q).sent lane [] ≡ bits 10 (word_sent q)
   unfolding sent_by
   bits-sent q =
-      sent-lane s (run lanes_b s q) lane below
+      sent-lane lanes_b s (run lanes_b s q) lane below
       ∙ ap (λ ws. last_of [] (map (bits 10) ws)) (words-more q)
       ∙ last-word (sent_words s.link.params lane (handed_by q)) (word_sent q)
 

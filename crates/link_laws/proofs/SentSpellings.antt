@@ -25,6 +25,7 @@ use Rattle.lane_b.specs.Sent.{char_of, coded_octets, data_char, data_octets, goi
 use Rattle.lane_b.specs.Senders.{HasSpellings, rd_after}
 use Rattle.lane_b.proofs.SentWords.{data_octets-more, sent_words-more}
 use Rattle.lane_b.proofs.Spelled.{comma-spelled, due-spelled, ilas-spelled}
+use Rattle.lane_b.specs.Received.{lanes_b}
 use Rattle.scenario.specs.Plans.{Plan}
 use Rattle.link_model.specs.Moments.{History}
 use Rattle.link_model.specs.Sends.{handed_since, last_of, sent_by}
@@ -142,13 +143,13 @@ last-spelled p lane before h spelled =
 -- what a lane sends in the tick that comes
 pub sends-spelling : (s : Plan) (h : History) (lane : ℕ) → broken_law s.link.params ≡ None
     → s.link.params.mode ≡ B → lane < s.link.params.l
-    → AreSpelled (get_or (next s h).sent lane [])
+    → AreSpelled (get_or (next lanes_b s h).sent lane [])
 unfolding sent_by
 sends-spelling s h lane legal mode below =
     let p = s.link.params in
     let now : Handed =
-    record { order = (next s h).order; octets = slice_index (next s h).handed lane } in
+    record { order = (next lanes_b s h).order; octets = slice_index (next lanes_b s h).handed lane } in
     let before : List Handed = handed_since s h lane in
-    rw (sent-lane s h lane below)
+    rw (sent-lane lanes_b s h lane below)
     (last-spelled p lane before now
     (char-spelled p lane before now now.order legal mode below (handed-small s h lane mode)))

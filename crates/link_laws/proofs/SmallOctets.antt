@@ -16,6 +16,7 @@ use Rattle.link_params.proofs.ConfigFacts.{config_octets-is}
 use Rattle.link_params.proofs.LawFacts.{rooms}
 use Rattle.sample_map.specs.Frames.{bit_due, frame_of, octet_due}
 use Rattle.lane_b.specs.Sent.{octets_of}
+use Rattle.lane_b.specs.Received.{lanes_b}
 use Rattle.scenario.specs.Plans.{Plan, numbers_from}
 use Rattle.link_model.specs.Moments.{History}
 use Rattle.link_model.specs.Sends.{data_place, frames_before, handed_to, octet_of}
@@ -67,12 +68,12 @@ handed-to-small s before (Some x) lane mode =
     omega arith
 
 pub handed-small : (s : Plan) (h : History) (lane : ℕ) → s.link.params.mode ≡ B
-    → slice_index (next s h).handed lane < 256
+    → slice_index (next lanes_b s h).handed lane < 256
 handed-small s h lane mode =
-    rw (handed-next s h)
+    rw (handed-next lanes_b s h)
     (mapped-small (lanes_of s) lane
-    (handed_to s (frames_before h) (data_place (next s h).order))
-    (λ l. handed-to-small s (frames_before h) (data_place (next s h).order) l mode))
+    (handed_to s (frames_before h) (data_place (next lanes_b s h).order))
+    (λ l. handed-to-small s (frames_before h) (data_place (next lanes_b s h).order) l mode))
 
 -- ---- configuration octets
 

@@ -6,8 +6,11 @@ use Rattle.lane_c.specs.Received.{lanes_c}
 use Rattle.link_laws.specs.Premises.{Undamaged, lock_pattern}
 use Rattle.link_laws.specs.LaneLaws.{IsCarrying, LaneData}
 use Rattle.link_laws.specs.Laws.{IsPlanRead}
-use Rattle.link_laws_c.specs.LaneLawsC.{BoundC, LaneLawsC, LatencyC, OutsideC}
+use Rattle.link_laws_c.specs.LaneLawsC.{BoundC, DepthC, FullestC, LaneLawsC, LatencyC, OutsideC}
+use Rattle.link_model.proofs.FactsC.{facts-c}
 use Rattle.link_laws.proofs.BoundLone.{bound-from-lanes}
+use Rattle.link_laws.proofs.FullestBuffer.{fullest-from-depth}
+use Rattle.link_laws.proofs.HeldEntries.{depth-by}
 use Rattle.link_laws.proofs.Latency.{latency-from-lanes}
 use Rattle.link_laws.proofs.Outside.{outside-from-lanes}
 use Rattle.link_laws_c.proofs.BurstMultiblocks.{reads-bursts}
@@ -50,6 +53,12 @@ latency-c s read mode = latency-from-lanes lanes_c lock_pattern s read (lane-law
 pub bound-c : BoundC
 bound-c s read mode = bound-from-lanes latency-from-lanes lanes_c lock_pattern s read
     (lane-laws-c s read mode)
+
+pub depth-c : DepthC
+depth-c s read mode = depth-by lanes_c s (facts-c s.link.params s.link.timing mode) read
+
+pub fullest-c : FullestC
+fullest-c s read mode = fullest-from-depth lanes_c s (depth-c s read mode)
 
 pub outside-c : OutsideC
 outside-c s read mode = outside-from-lanes lanes_c lock_pattern s read (lane-laws-c s read mode)

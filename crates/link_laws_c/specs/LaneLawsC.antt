@@ -7,7 +7,7 @@ use Rattle.lane_c.specs.Received.{lanes_c}
 use Rattle.scenario.specs.Plans.{Plan}
 use Rattle.link_laws.specs.Premises.{lock_pattern}
 use Rattle.link_laws.specs.LaneLaws.{LaneLaws}
-use Rattle.link_laws.specs.Laws.{Bound, IsPlanRead, Latency, Outside}
+use Rattle.link_laws.specs.Laws.{Bound, Depth, Fullest, IsPlanRead, Latency, Outside}
 
 -- the lane laws hold of the run of each plan that was read, with CRC-12 and with FEC
 abbrev pub LaneLawsC : Type 0
@@ -22,6 +22,14 @@ LatencyC = (s : Plan) → IsPlanRead s → is_b s.link.params.mode ≡ false
 -- an undisturbed link delivers within its bound
 abbrev pub BoundC : Type 0
 BoundC = (s : Plan) → IsPlanRead s → is_b s.link.params.mode ≡ false → Bound lanes_c lock_pattern s
+
+-- each buffer has room, and an entry where it is to give one
+abbrev pub DepthC : Type 0
+DepthC = (s : Plan) → IsPlanRead s → is_b s.link.params.mode ≡ false → Depth lanes_c s
+
+-- what the report tells as the fullest buffer is within what it tells as the depth
+abbrev pub FullestC : Type 0
+FullestC = (s : Plan) → IsPlanRead s → is_b s.link.params.mode ≡ false → Fullest lanes_c s
 
 -- a lane outside its window raises an alarm, and nothing is released
 abbrev pub OutsideC : Type 0

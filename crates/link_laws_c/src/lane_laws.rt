@@ -1,5 +1,12 @@
 //! The laws of 64b/66b lanes, and the laws of their runs.
-ghost use Rattle.link_laws_c.specs.LaneLawsC.{BoundC, LaneLawsC, LatencyC, OutsideC};
+ghost use Rattle.link_laws_c.specs.LaneLawsC.{
+  BoundC,
+  DepthC,
+  FullestC,
+  LaneLawsC,
+  LatencyC,
+  OutsideC,
+};
 
 /// The laws of a lane hold of the run of each legal plan with 64b/66b lanes, with CRC-12 and with
 /// FEC (JESD204C.1, 64b/66b link layer: block, multiblock and extended multiblock synchronization).
@@ -14,9 +21,15 @@ ghost use Rattle.link_laws_c.specs.LaneLawsC.{BoundC, LaneLawsC, LatencyC, Outsi
 /// stands where no multiblock begins, each frame leaves unchanged exactly the link's latency after
 /// it entered; on a clean line delivery starts within the link's bound; and where a lane
 /// is outside its window, an alarm is raised for such a lane, and nothing is released.
+///
+/// In every run, whatever its lines do, each elastic buffer has room for the entry of each tick and
+/// holds one in each tick in which it is to give one, and the fullest buffer of the report is
+/// within its depth.
 pub fn lane_laws_of_lanes_c()
     ensures lane_laws { LaneLawsC }
     ensures latency { LatencyC }
     ensures bound { BoundC }
+    ensures depth { DepthC }
+    ensures fullest { FullestC }
     ensures outside { OutsideC }
 {}

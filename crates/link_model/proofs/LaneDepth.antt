@@ -5,18 +5,17 @@ use Rattle.std.proofs.lemmas.Bool.{cases_Bool, cases_lt, cond-true, cond-false, 
 use Rattle.link_params.specs.declared.fields.Params.{Params}
 use Rattle.link_params.specs.declared.fields.Timing.{Timing}
 use Rattle.link_params.specs.declared.lane_report.LaneReport.{LaneReport}
-use Rattle.link_params.specs.Lanes.{Taken, is_inside}
-use Rattle.link_params.specs.Numbers.{depth, lat_ticks, period}
+use Rattle.link_params.specs.Lanes.{LaneKind, Taken, is_inside}
+use Rattle.link_params.specs.Numbers.{depth, period, width}
 use Rattle.bring_up.specs.declared.stage.Stage.{Stage}
 use Rattle.bring_up.specs.declared.stage.Stage.TheVariants as stage
 use Rattle.bring_up.specs.declared.stage.Decision.{Decision}
 use Rattle.bring_up.specs.declared.stage.Decision.TheVariants as decision
 use Rattle.bring_up.specs.Decisions.{Standing, after_decision, decide, is_hunting, is_running}
-use Rattle.lane_b.specs.Received.{entries_b}
-use Rattle.lane_b.specs.Receivers.{AreTens}
-use Rattle.lane_b.proofs.LaneEntries.{StartsNow, next-started, next-unstarted, started_b}
+use Rattle.lane_c.specs.Receivers.{IsArmedOn}
 use Rattle.link_model.proofs.DecisionCases.{hunt-cases, no_report, run-cases, wait-cases}
-use Rattle.link_model.proofs.WindowFacts.{ComesAfter, IsLegal, comes-after-start, depth-is, goes-near, near-offset}
+use Rattle.link_model.proofs.KindFacts.{AreTicks, KindFacts, StartsNow, started_by}
+use Rattle.link_model.proofs.WindowFacts.{ComesAfter, IsLegal, comes-after-start, goes-near, near-offset, ticks_left}
 use Rattle.link_model.specs.Hunts.{is_hunt}
 use Rattle.link_model.specs.Receives.{offset_at}
 use Rattle.link_model.specs.Run.{is_at}
@@ -27,14 +26,14 @@ pub record IsOnWay (p : Params) (t : Timing) (x f n : ℕ) : Type 0 where
   pub left : ℕ
   pub some : 1 ≤ left
   pub short : left < period p
-  pub count : n + left ≡ lat_ticks p t - f + 1
+  pub count : n + left ≡ ticks_left p t f + 1
   pub comes : ComesAfter p t x left
 
 -- the same, where this tick may be the release point
 record Arrives (p : Params) (t : Timing) (x f n : ℕ) : Type 0 where
   left : ℕ
   short : left < period p
-  count : n + left ≡ lat_ticks p t - f + 1
+  count : n + left ≡ ticks_left p t f + 1
   comes : ComesAfter p t x left
 
 -- after a tick in a hunt
@@ -58,7 +57,7 @@ pub record InRun (p : Params) (t : Timing) (started : Option ℕ) (n g : ℕ) : 
   pub offset : ℕ
   pub is : started ≡ Some offset
   pub inside : is_inside t offset ≡ true
-  pub count : n ≡ g + (lat_ticks p t - offset)
+  pub count : n ≡ g + ticks_left p t offset
 
 -- after a tick in this stage: n entries came, and g were given
 abbrev pub LaneIn : Stage → Params → Timing → Option ℕ → Option ℕ → ℕ → ℕ → Type 0
@@ -99,10 +98,8 @@ module _ (p : Params) (t : Timing) (legal : IsLegal p t) where
       → n - g < depth p t
   room-in stage.Hunt phase started n g h =
       let empty = h.empty in
-      let d = depth-is p t legal in
       omega arith
   room-in stage.Wait phase started n g h =
-      let d = depth-is p t legal in
       elim (cases-start started) [
         | inr none ↦ let empty = h.unstarted none in omega arith
         | inl k ↦ elim (cases_Bool (is_inside t k.0)) [
@@ -182,24 +179,25 @@ module _ (p : Params) (t : Timing) (legal : IsLegal p t) where
       })
 
   -- a tick more in a lane
-  module _ (lane : ℕ) (taken : List Taken) (w : Taken) (tens : AreTens taken)
-      (ten : length w.word ≡ 10) where
+  module _ (kind : LaneKind) (facts : KindFacts kind p t) (lane : ℕ) (taken : List Taken) (w : Taken)
+      (ticks : AreTicks (width p) taken) (size : length w.word ≡ width p)
+      (armed_on : IsArmedOn taken w.order) where
     pub started : Option ℕ
-    started = started_b p t lane taken
+    started = started_by kind p t lane taken
 
     later : Option ℕ
-    later = started_b p t lane (taken ++ w ∷ [])
+    later = started_by kind p t lane (taken ++ w ∷ [])
 
     n : ℕ
-    n = length (entries_b p t lane taken)
+    n = length (kind.entries p t lane taken)
 
     pub m : ℕ
-    m = length (entries_b p t lane (taken ++ w ∷ []))
+    m = length (kind.entries p t lane (taken ++ w ∷ []))
 
     -- a lane that is not armed
     unarmed : w.order.armed ≡ false → started ≡ None → (later ≡ None) × (m ≡ 0)
     unfolding started later m
-    unarmed off none = elim (next-unstarted taken w tens ten p t lane none) [
+    unarmed off none = elim (facts.unstarted lane taken w ticks size armed_on none) [
       | inl u ↦ (u.started, ap length u.entries)
       | inr s ↦ let on = s.armed in absurd (cc)
     ]
@@ -218,7 +216,7 @@ module _ (p : Params) (t : Timing) (legal : IsLegal p t) where
     }
 
     arriving-starts : (x : ℕ) → x < period p → w.order.offset ≡ offset_at p t (Some x)
-        → StartsNow p t lane taken w → Arriving x
+        → StartsNow kind p t lane taken w → Arriving x
     unfolding later m
     arriving-starts x below offset s =
         let entries = s.entries in
@@ -233,15 +231,15 @@ module _ (p : Params) (t : Timing) (legal : IsLegal p t) where
               let is = s.started in
               let same : w.order.offset ≡ f = cc in
               let at : f ≡ offset_at p t (Some x) = sym same ∙ offset in
-              let one : length (entries_b p t lane (taken ++ w ∷ [])) ≡ 1 =
+              let one : length (kind.entries p t lane (taken ++ w ∷ [])) ≡ 1 =
               ap length (entries ∙ cond-true (is_inside t w.order.offset) (s.entry ∷ []) []
               (ap (is_inside t) same ∙ i)) in
               let here : is_inside t (offset_at p t (Some x)) ≡ true = sym (ap (is_inside t) at)
               ∙ i in
-              let comes : ComesAfter p t x (lat_ticks p t - f) =
+              let comes : ComesAfter p t x (ticks_left p t f) =
               rw at (comes-after-start p t x legal below here) in
               record {
-                left = lat_ticks p t - f;
+                left = ticks_left p t f;
                 short = (near-offset p t f legal i).near;
                 count =
                     omega arith;
@@ -253,7 +251,7 @@ module _ (p : Params) (t : Timing) (legal : IsLegal p t) where
         → phase ≡ Some x → started ≡ Some f → Arriving ((x + 1) % period p)
     unfolding started later n m
     arriving-started phase x g f before phase_is some =
-        let more = next-started taken w tens ten p t lane f some in
+        let more = facts.started lane taken w f ticks size armed_on some in
         record {
           unstarted = λ e. let is = more.started in absurd (cc);
           outside = λ k e o.
@@ -269,7 +267,7 @@ module _ (p : Params) (t : Timing) (legal : IsLegal p t) where
               let way = before.inside k (some ∙ ap Some same) i in
               let g = goes-near p t before.x way.left legal low way.some way.short way.comes in
               let long = ap length (more.inside (ap (is_inside t) same ∙ i))
-              ∙ length-append (entries_b p t lane taken) (more.entry ∷ []) in
+              ∙ length-append (kind.entries p t lane taken) (more.entry ∷ []) in
               let less = g.less in
               let count = way.count in
               let short = way.short in
@@ -287,7 +285,7 @@ module _ (p : Params) (t : Timing) (legal : IsLegal p t) where
         mod-lt (x + 1) (let pos : 0 < period p = omega arith in pos) in
         elim (cases-start started) [
           | inl k ↦ arriving-started phase x g k.0 before phase_is k.1
-          | inr none ↦ elim (next-unstarted taken w tens ten p t lane none) [
+          | inr none ↦ elim (facts.unstarted lane taken w ticks size armed_on none) [
             | inl u ↦ arriving-none ((x + 1) % period p) u.started (ap length u.entries)
             | inr s ↦ arriving-starts ((x + 1) % period p) below offset s
           ]
@@ -331,7 +329,7 @@ module _ (p : Params) (t : Timing) (legal : IsLegal p t) where
 
     -- a release point
     all-come : (x f : ℕ) → Arriving x → x ≡ t.rbd → later ≡ Some f → is_inside t f ≡ true
-        → m ≡ lat_ticks p t - f + 1
+        → m ≡ ticks_left p t f + 1
     all-come x f a at e i =
         let r = a.inside f e i in
         let short = r.short in
@@ -406,10 +404,10 @@ module _ (p : Params) (t : Timing) (legal : IsLegal p t) where
           → Outcome p t d after next later m g
       unfolding started later n m
       run-step next g is r =
-          let more = next-started taken w tens ten p t lane r.offset r.is in
+          let more = facts.started lane taken w r.offset ticks size armed_on r.is in
           let near = (near-offset p t r.offset legal r.inside).fits in
           let count = r.count in
-          let long = ap length (more.inside r.inside) ∙ length-append (entries_b p t lane taken)
+          let long = ap length (more.inside r.inside) ∙ length-append (kind.entries p t lane taken)
           (more.entry ∷ []) in
           let here : InRun p t later m (g + 1) =
           record {
@@ -491,11 +489,11 @@ module _ (p : Params) (t : Timing) (legal : IsLegal p t) where
           → ((x : ℕ) → phase ≡ Some x → before.stage ≡ stage.Wait
           → next ≡ Some ((x + 1) % period p)) → decides ≡ is_at next t.rbd
           → lane < length reports
-          → (get_or reports lane no_report).started ≡ started_b p t lane (taken ++ w ∷ [])
-          → LaneIn before.stage p t phase (started_b p t lane taken)
-          (length (entries_b p t lane taken)) g
-          → Outcome p t d after next (started_b p t lane (taken ++ w ∷ []))
-          (length (entries_b p t lane (taken ++ w ∷ []))) g
+          → (get_or reports lane no_report).started ≡ started_by kind p t lane (taken ++ w ∷ [])
+          → LaneIn before.stage p t phase (started_by kind p t lane taken)
+          (length (kind.entries p t lane taken)) g
+          → Outcome p t d after next (started_by kind p t lane (taken ++ w ∷ []))
+          (length (kind.entries p t lane (taken ++ w ∷ []))) g
       unfolding started later n m
       lane-step phase next g armed offset goes decides_is below report h =
           elim (cases-stage before.stage) [

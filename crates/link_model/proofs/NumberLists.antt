@@ -39,3 +39,25 @@ map-numbers f g zero a same = refl
 map-numbers f g (suc n) a same =
     ap₂ (λ y l. y ∷ l) (same a (omega arith))
     (map-numbers f g n (suc a) (λ x below. same x (omega arith)))
+
+pub map-shift : {A : Type 0} (f : ℕ → A) → (n a b : ℕ)
+    → map f (numbers_from (b + a) n) ≡ map (λ j. f (b + j)) (numbers_from a n)
+unfolding numbers_from
+map-shift f zero a b = refl
+map-shift f (suc n) a b =
+    let e : suc (b + a) ≡ b + suc a = omega arith in
+    ap (λ l. f (b + a) ∷ l) (ap (λ k. map f (numbers_from k n)) e ∙ map-shift f n (suc a) b)
+
+pub numbers-append : (m n a : ℕ)
+    → numbers_from a (m + n) ≡ numbers_from a m ++ numbers_from (a + m) n
+unfolding numbers_from
+numbers-append zero n a =
+    let e : a ≡ a + 0 = omega arith in
+    let z : 0 + n ≡ n = omega arith in
+    ap (numbers_from a) z ∙ ap (λ k. numbers_from k n) e
+numbers-append (suc m) n a =
+    let e : suc a + m ≡ a + suc m = omega arith in
+    let z : suc m + n ≡ suc (m + n) = omega arith in
+    ap (numbers_from a) z
+    ∙ ap (λ l. a ∷ l) (numbers-append m n (suc a)
+    ∙ ap (λ k. numbers_from (suc a) m ++ numbers_from k n) e)

@@ -1,6 +1,6 @@
 -- What the transmitter of a run observes and what goes into it, with a tick more.
-use Rattle.std.proofs.Common.{◌≡◌, ℕ, zero, suc, ◌+◌, ◌-◌, ◌*◌, ◌%◌, ◌==◌, ◌<◌, ◌≤◌, Bool, true, false, if◌then◌else◌, List, [], ◌∷◌, ◌++◌, length, map, filter, replicate, take, drop, get_or, slice_index, Option, Some, None, inl, inr, refl, sym, subst, ap, ap₂, ◌∙◌, add-one, append_assoc, append-nil, length-append, arith, option_map, flat_map, fold}
-use Rattle.std.proofs.lemmas.Bool.{cases_Bool, cases_lt, lt-ltb, le-ltb, ne_eqb}
+use Rattle.std.proofs.Common.{◌≡◌, ℕ, zero, suc, ◌+◌, ◌-◌, ◌<◌, ◌≤◌, Bool, true, false, if◌then◌else◌, List, [], ◌∷◌, ◌++◌, length, map, replicate, take, drop, get_or, slice_index, inl, inr, refl, sym, ap, ap₂, ◌∙◌, add-one, append_assoc, append-nil, length-append, arith, flat_map}
+use Rattle.std.proofs.lemmas.Bool.{cases_Bool}
 use Rattle.std.proofs.lemmas.List.{length-map, length-replicate, length_push, map_push, get_or-take, get_or_append_left, get_or-map, drop-append-le, drop_all}
 use Rattle.std.proofs.lemmas.List.Concat.{flat_map-append}
 use Rattle.link_params.specs.Lanes.{LaneKind}

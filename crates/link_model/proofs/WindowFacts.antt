@@ -1,10 +1,9 @@
 -- How far a release point is from a start inside the window, and how the receiver's phase goes on.
-use Rattle.std.proofs.Common.{◌≡◌, ℕ, suc, ◌+◌, ◌-◌, ◌*◌, ◌/◌, ◌%◌, ◌<◌, ◌≤◌, ◌⊎◌, true, false, nat_le, [], ◌∷◌, ◌++◌, map, Some, None, inl, inr, refl, sym, ap, ◌∙◌, arith}
+use Rattle.std.proofs.Common.{◌≡◌, ℕ, suc, ◌+◌, ◌-◌, ◌*◌, ◌/◌, ◌%◌, ◌<◌, ◌≤◌, ◌⊎◌, true, false, nat_le, [], ◌∷◌, ◌++◌, map, Some, None, inl, inr, sym, ap, ◌∙◌, arith}
 use Rattle.std.proofs.Math.Nat.{mod-lt, mul-le-mul_left, add-mul-mod_self_left, mod-eq_of_lt}
 use Rattle.std.proofs.lemmas.Bool.{and_parts, cases_lt, leb-true}
 use Rattle.std.proofs.lemmas.List.{map_push}
 use Rattle.link_params.specs.declared.fields.Params.{Params}
-use Rattle.link_params.specs.declared.fields.Mode.TheVariants.{B}
 use Rattle.link_params.specs.declared.fields.Timing.{Timing}
 use Rattle.link_params.specs.declared.alarms.Device.TheVariants.{Rx}
 use Rattle.link_params.specs.Lanes.{is_inside}
@@ -32,25 +31,23 @@ one-remainder p a b pos e le near =
       | inr up ↦ let m : p * (b / p) ≤ p * (a / p) = mul-le-mul_left p up in omega arith
     ]
 
--- what the laws of an 8b/10b link give
+-- what the laws of a link give
 pub record IsLegal (p : Params) (t : Timing) : Type 0 where
   pub some : 17 ≤ period p
-  pub no_wait : wait p ≡ 0
   pub rbd : t.rbd < period p
   pub window : t.w_lo ≤ t.w_hi
-  pub late : t.w_hi ≤ lat_ticks p t
-  pub near : lat_ticks p t < t.w_lo + period p
+  pub late : t.w_hi + wait p ≤ lat_ticks p t
+  pub near : lat_ticks p t < t.w_lo + wait p + period p
   pub behind : tx_edge t ≤ rx_edge t + period p
   pub step : (lat_ticks p t + tx_edge t) % period p ≡ (rx_edge t + t.rbd) % period p
 
-pub legal : (p : Params) (t : Timing) → broken_law p ≡ None → broken_timing p t ≡ None → p.mode ≡ B
+pub legal : (p : Params) (t : Timing) → broken_law p ≡ None → broken_timing p t ≡ None
     → IsLegal p t
-legal p t laws timing mode =
+legal p t laws timing =
     let sizes = legal_sizes p laws in
     let some : 17 ≤ period p = sizes.period_low in
     let pos : 0 < period p = omega arith in
     let l = timely p t timing in
-    let z : wait p ≡ 0 = rw mode refl in
     let due : ℕ = (rx_edge t + t.rbd) % period p in
     let low : due < period p = mod-lt (rx_edge t + t.rbd) pos in
     let least : ℕ = t.w_hi + wait p in
@@ -64,7 +61,6 @@ legal p t laws timing mode =
     let latency = l.latency in
     record {
       some = some;
-      no_wait = z;
       rbd = l.rbd;
       window = l.order;
       late = omega arith;
@@ -73,20 +69,20 @@ legal p t laws timing mode =
       step = ap (λ (n : ℕ). (n + tx_edge t) % period p) (sym is) ∙ steps;
     }
 
--- the entries for which the buffer has room
-pub depth-is : (p : Params) (t : Timing) → IsLegal p t → depth p t ≡ lat_ticks p t - t.w_lo + 1
-depth-is p t l = let z = l.no_wait in omega arith
-
 inside-parts : (t : Timing) (f : ℕ) → is_inside t f ≡ true → (t.w_lo ≤ f) × (f ≤ t.w_hi)
 inside-parts t f e =
     let parts = and_parts (nat_le t.w_lo f) (nat_le f t.w_hi) e in
     (leb-true t.w_lo f parts.0, leb-true f t.w_hi parts.1)
 
+-- what is left of the latency after a start at this offset and the wait for a check
+abbrev pub ticks_left : Params → Timing → ℕ → ℕ
+ticks_left p t f = lat_ticks p t - wait p - f
+
 -- an offset inside the window lies within the latency
 pub record IsNear (p : Params) (t : Timing) (f : ℕ) : Type 0 where
-  pub within : f ≤ lat_ticks p t
-  pub near : lat_ticks p t - f < period p
-  pub fits : lat_ticks p t - f + 1 ≤ depth p t
+  pub within : f + wait p ≤ lat_ticks p t
+  pub near : ticks_left p t f < period p
+  pub fits : ticks_left p t f + 1 ≤ depth p t
 
 pub near-offset : (p : Params) (t : Timing) (f : ℕ) → IsLegal p t → is_inside t f ≡ true
     → IsNear p t f
@@ -96,58 +92,64 @@ near-offset p t f l inside =
     let high = parts.1 in
     let late = l.late in
     let near = l.near in
-    let d = depth-is p t l in
     record { within = omega arith; near = omega arith; fits = omega arith }
 
 -- so many ticks after phase x comes a release point
 abbrev pub ComesAfter : Params → Timing → ℕ → ℕ → Type 0
 ComesAfter p t x d = (x + d ≡ t.rbd) ⊎ (x + d ≡ t.rbd + period p)
 
+-- a period more for each tick of the wait is more than the wait
+grown : (w n : ℕ) → 0 < n → w + n ≤ (w + 1) * n
+grown w n pos =
+    let more : w * 1 ≤ w * n = mul-le-mul_left w pos in
+    let all : (w + 1) * n ≡ w * n + n = omega arith in
+    omega arith
+
 -- where a start at phase x has an offset inside the window, a release point comes after what is
 -- left of the latency
 pub comes-after-start : (p : Params) (t : Timing) (x : ℕ) → IsLegal p t → x < period p
     → is_inside t (offset_at p t (Some x)) ≡ true
-    → ComesAfter p t x (lat_ticks p t - offset_at p t (Some x))
+    → ComesAfter p t x (ticks_left p t (offset_at p t (Some x)))
 comes-after-start p t x l below inside =
     let n : ℕ = period p in
     let some = l.some in
     let pos : 0 < n = omega arith in
-    let z = l.no_wait in
     let behind = l.behind in
     let rbd = l.rbd in
     let f : ℕ = offset_at p t (Some x) in
-    let whole : ℕ = x + rx_edge t + n - tx_edge t in
-    let one : (0 + 1) * n ≡ n = omega arith in
-    let same : f ≡ whole % n =
-    ap (λ (w : ℕ). (x + rx_edge t + (w + 1) * n - (tx_edge t + w)) % n) z
-    ∙ ap (λ (m : ℕ). (x + rx_edge t + m - (tx_edge t + 0)) % n) one
-    ∙ (let e : x + rx_edge t + n - (tx_edge t + 0) ≡ whole = omega arith in
-    ap (λ (m : ℕ). m % n) e) in
+    let w : ℕ = wait p in
+    let more : ℕ = (w + 1) * n in
+    let times : more ≡ n * (w + 1) = omega arith in
+    let room : w + n ≤ more = grown w n pos in
+    let whole : ℕ = x + rx_edge t + more - (tx_edge t + w) in
     let near = near-offset p t f l inside in
     let in_reach = near.within in
     let small = near.near in
-    let q : ℕ = lat_ticks p t - f in
+    let q : ℕ = ticks_left p t f in
     let k : ℕ = whole / n in
     let parts : n * k + whole % n ≡ whole = omega arith in
-    let sum : q + x + rx_edge t + n ≡ lat_ticks p t + tx_edge t + n * k = omega arith in
-    let rest : (q + x + rx_edge t + n) % n ≡ (rx_edge t + t.rbd) % n =
+    let sum : q + x + rx_edge t + more ≡ lat_ticks p t + tx_edge t + n * k = omega arith in
+    let rest : (q + x + rx_edge t + more) % n ≡ (rx_edge t + t.rbd) % n =
     ap (λ (m : ℕ). m % n) sum ∙ add-mul-mod_self_left (lat_ticks p t + tx_edge t) n k ∙ l.step in
-    let again : (rx_edge t + t.rbd + n * 1) % n ≡ (rx_edge t + t.rbd) % n =
-    add-mul-mod_self_left (rx_edge t + t.rbd) n 1 in
-    let twice : (rx_edge t + t.rbd + n * 2) % n ≡ (rx_edge t + t.rbd) % n =
-    add-mul-mod_self_left (rx_edge t + t.rbd) n 2 in
+    let again : (rx_edge t + t.rbd + more) % n ≡ (rx_edge t + t.rbd) % n =
+    ap (λ (m : ℕ). (rx_edge t + t.rbd + m) % n) times
+    ∙ add-mul-mod_self_left (rx_edge t + t.rbd) n (w + 1) in
+    let once : rx_edge t + t.rbd + more + n ≡ rx_edge t + t.rbd + more + n * 1 = omega arith in
+    let twice : (rx_edge t + t.rbd + more + n) % n ≡ (rx_edge t + t.rbd) % n =
+    ap (λ (m : ℕ). m % n) once
+    ∙ add-mul-mod_self_left (rx_edge t + t.rbd + more) n 1 ∙ again in
     elim (cases_lt t.rbd (q + x)) [
       | inr low ↦
-          let e = one-remainder n (q + x + rx_edge t + n) (rx_edge t + t.rbd + n * 1) pos
+          let e = one-remainder n (q + x + rx_edge t + more) (rx_edge t + t.rbd + more) pos
           (rest ∙ sym again) (omega arith) (omega arith) in
           inl (omega arith)
       | inl above ↦ elim (cases_lt (t.rbd + n) (q + x)) [
         | inr low ↦
-            let e = one-remainder n (q + x + rx_edge t + n) (rx_edge t + t.rbd + n * 2) pos
+            let e = one-remainder n (q + x + rx_edge t + more) (rx_edge t + t.rbd + more + n) pos
             (rest ∙ sym twice) (omega arith) (omega arith) in
             inr (omega arith)
         | inl high ↦
-            let e = one-remainder n (rx_edge t + t.rbd + n * 2) (q + x + rx_edge t + n) pos
+            let e = one-remainder n (rx_edge t + t.rbd + more + n) (q + x + rx_edge t + more) pos
             (twice ∙ sym rest) (omega arith) (omega arith) in
             inr (omega arith)
       ]

@@ -1,7 +1,7 @@
 -- What a lane of a run went through, for lemmas about a history; the definition of a run does not
 -- need it.
 -- Code: what the two ends of a lane and its line keep.
-use Rattle.std.specs.Prelude.{ℕ, ◌+◌, ◌-◌, ◌*◌, Bool, false, if◌then◌else◌, List, [], ◌∷◌, ◌++◌, length, get_or, Option, drop}
+use Rattle.std.specs.Prelude.{ℕ, ◌-◌, ◌*◌, Bool, false, if◌then◌else◌, List, [], ◌∷◌, ◌++◌, length, get_or, Option, drop}
 use Rattle.link_params.specs.declared.orders.TxOrder.{TxOrder}
 use Rattle.link_params.specs.declared.orders.RxOrder.{RxOrder}
 use Rattle.link_params.specs.declared.cells.LaneCell.{LaneCell}
