@@ -1,7 +1,9 @@
 pub mod EdgeTicks
 pub mod OrderLemmas
+pub mod BlockOrders
 pub mod SyncLemmas
 pub mod FeedLemmas
+pub mod Handing
 pub mod PlanFacts
 pub mod LinkFacts
 pub mod PairLemmas

@@ -31,6 +31,7 @@ pub record HasFeedSizes (p : Params) (size per_tick : ℕ) (words octets : List 
   pub some : 1 ≤ size
   pub most : size ≤ 256
   pub per_tick_is : per_tick ≡ octets_per_tick p
+  pub few : per_tick ≤ 8
   pub words_are : length words ≡ p.m * p.s
   pub octets_are : length octets ≡ p.l * p.f
 

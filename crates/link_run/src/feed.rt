@@ -1,12 +1,10 @@
 //! The octets of source frames, on their way into the lanes.
-ghost use Rattle.std.specs.Prelude.{◌≡◌, ◌<◌, ◌≤◌, ◌+◌, ◌-◌, ◌*◌, ◌^◌, true, ℕ, List, Some, All, IfOk, IfSome, length, map, slice_index};
+ghost use Rattle.std.specs.Prelude.{◌≡◌, ◌<◌, ◌≤◌, ◌+◌, ◌-◌, ◌*◌, ◌^◌, ◌==◌, true, ℕ, List, Some, All, IfOk, IfSome, if◌then◌else◌, length, map, slice_index};
 ghost use Rattle.link_params.specs.Laws.{is_b};
-ghost use Rattle.link_params.specs.Numbers.{octets_per_tick, period as period_of};
 ghost use Rattle.sample_map.specs.Frames.{frame_of};
 ghost use Rattle.scenario.specs.Plans.{Plan, numbers_from, plan_of, source_frame};
 ghost use Rattle.link_model.specs.Sends.{beginnings, handed_to};
 ghost use Rattle.link_run.specs.Seen.{HasFed, with_octet};
-ghost use Rattle.link_run.specs.Printing.{one_if};
 
 use jesd_base::NoMemory;
 use sample_map::{Layout, layout_laws};
@@ -73,7 +71,7 @@ impl Feed {
     pub fn hand(&mut self, s: &Scenario, place: Option<u32>, handed: &mut [u64])
         requires shape { s.now.shape ≡ self.old.params }
         requires lanes { length handed.old ≡ self.old.params.l }
-        requires place { IfSome place (λ x. x < period_of self.old.params) }
+        requires place { IfSome place (λ x. x < 1024) }
         requires count { self.old.begun + 8 ≤ 4294967295 }
         ensures handed { (plan : Plan) (n : ℕ) → plan_of s.now ≡ Some plan → HasFed self.old plan n
             → handed.new ≡ map (handed_to plan n place) (numbers_from 0 plan.link.params.l) }
@@ -100,8 +98,9 @@ impl Feed {
         requires count { self.old.begun < 4294967295 }
         requires small { All (λ v. v < 2 ^ 56) handed.old }
         ensures handed { handed.new ≡ with_octet self.new at handed.old }
+        ensures small { (m : ℕ) → All (λ v. v < m) handed.old → All (λ v. v < m * 256) handed.new }
         ensures fed { (plan : Plan) (n : ℕ) → plan_of s.now ≡ Some plan → HasFed self.old plan n
-            → HasFed self.new plan (n + one_if (at == 0)) }
+            → HasFed self.new plan (n + (if at == 0 then 1 else 0)) }
         ensures same { self.new.params ≡ self.old.params }
         ensures count { self.new.begun ≤ self.old.begun + 1 }
     {
@@ -116,12 +115,21 @@ impl Feed {
         requires lanes { length handed.old ≡ self.now.params.l }
         requires at { at < self.now.params.f }
         requires small { All (λ v. v < 2 ^ 56) handed.old }
-        ensures { handed.new ≡ with_octet self.now at handed.old }
+        ensures handed { handed.new ≡ with_octet self.now at handed.old }
+        ensures small { (m : ℕ) → All (λ v. v < m) handed.old → All (λ v. v < m * 256) handed.new }
     {
         let (size, at) = (self.size as usize, at as usize);
         for (lane, number) in handed.iter_mut().enumerate() {
-            *number = *number * 256 + u64::from(self.octets[lane * size + at]);
+            *number = *number * 256 + u64::from(self.octet(lane * size + at));
         }
+    }
+
+    // The octet at this place of the frame that began last.
+    fn octet(&self, place: usize) -> u8
+        requires { place < length self.now.octets }
+        ensures { result ≡ slice_index self.now.octets place }
+    {
+        self.octets[place]
     }
 
     // The next source frame begins.

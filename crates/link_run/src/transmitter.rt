@@ -3,7 +3,6 @@ ghost use Rattle.std.specs.Prelude.{◌≡◌, ◌≤◌, ◌+◌, ◌<◌, ◌*
 ghost use Rattle.link_params.specs.declared.alarms.Device.TheVariants.{Tx as TxDevice};
 ghost use Rattle.link_params.specs.declared.fields.Params.{Params as ParamsValue};
 ghost use Rattle.link_params.specs.Laws.{is_b};
-ghost use Rattle.link_params.specs.Numbers.{period as period_of};
 ghost use Rattle.scenario.specs.Plans.{Plan, plan_of};
 ghost use Rattle.bring_up.specs.Decisions.{is_hunting};
 ghost use Rattle.link_model.specs.Before.{levels_after, observed_before};
@@ -84,7 +83,7 @@ impl Transmitter {
             → plan.link ≡ link.now → HasSentRun self.old plan h → t ≡ length h
             → reset ≡ is_reset plan TxDevice t → IsSentTick result self.old self.new plan h reset }
         ensures small { is_b self.old.feed.params.mode ≡ true → All (λ v. v < 256) self.new.handed }
-        ensures place { IfSome result.place (λ x. x < period_of self.old.feed.params) }
+        ensures place { IfSome result.place (λ x. x < 1024) }
         ensures begun { self.new.feed.begun ≤ 8 * (t + 1) }
         ensures same { self.new.feed.params ≡ self.old.feed.params }
     {
@@ -132,7 +131,7 @@ fn observe(
         → HasObserved sending.old plan.link.params (observed_before plan h)
         → phase ≡ phase_of plan TxDevice (length h) → reset ≡ is_reset plan TxDevice (length h)
         → Observes result sending.old sending.new plan h reset }
-    ensures place { IfSome (data_place result) (λ x. x < period_of link.now.params) }
+    ensures place { IfSome (data_place result) (λ x. x < 1024) }
 {
     let shape = link.shape();
     reset_if(sending, shape.params().mode, reset);
