@@ -1,6 +1,6 @@
 -- Frames as they are gathered, by columns of octets.
 use Rattle.std.proofs.Common.{◌≡◌, ℕ, ◌+◌, ◌-◌, ◌*◌, ◌/◌, ◌%◌, ◌==◌, ◌<◌, ◌≤◌, if◌then◌else◌, List, [], ◌∷◌, ◌++◌, map, length, get_or, set, take, get_or-set_other, get_or-set_same, refl, ap, ap₂, ◌∙◌, sym, subst, append_assoc, arith, inl, inr, Bool, true, false, Some, None, ne_eqb}
-use Rattle.std.specs.Prelude.{fold, is_some, not, slice_index, Option}
+use Rattle.std.specs.Prelude.{fold, is_some, slice_index, Option}
 use Rattle.std.proofs.Math.Seq.{get_or-append_seam, take-length}
 use Rattle.std.proofs.Math.ListN.{get_or-append}
 use Rattle.std.proofs.Math.Nat.{mod-lt, zero-mod, mul-le-mul_right}
@@ -18,9 +18,9 @@ use Rattle.scenario.specs.Plans.{numbers_from}
 use Rattle.sample_map.specs.Frames.{words_of}
 use Rattle.link_model.proofs.NumberLists.{length-numbers, map-numbers}
 use Rattle.link_model.proofs.WholeFrames.{cells-stay, first-columns-more, first_columns, octet-is, octet_column, div-le, whole-part, whole-parts-more}
-use Rattle.link_model.specs.Before.{Columns, cell_at, cells_of, mark_of, no_cell, values_of}
+use Rattle.link_model.specs.Before.{Columns, cell_at, cells_of, mark_of, no_cell, octet_columns, values_of}
 use Rattle.link_run.proofs.Marks.{IsWorst, get_or-cells, lane-lt, length-cells, mark_of-cells, some-of-product, worst_more, worst_same, worst_unique}
-use Rattle.link_run.specs.Gathered.{Gathering, GathersOn, HasFinished, HasGathered, HasPut, Whole, octet_at, whole_of}
+use Rattle.link_run.specs.Gathered.{FramesAre, Gathering, GathersOn, HasFinished, HasGathered, HasPut, Whole, octet_at, whole_of}
 
 -- m octets of each lane are there, with this mark
 pub record IsPart (p : Params) (m : ℕ) (cell : ℕ → ℕ → LaneCell) (mark : Mark)
@@ -313,12 +313,6 @@ whole-is p columns q mark frame size part =
 
 -- ---- what a tick gives
 
-pub not-opposite : (b d : Bool) → b ≡ d → b ≡ not d → ⊥
-not-opposite true true same other = cc
-not-opposite true false same other = cc
-not-opposite false true same other = cc
-not-opposite false false same other = cc
-
 pub all-gave : (given : List (Option LaneCell)) (column : List LaneCell) → 0 < length given
     → given ≡ map (λ c. Some c) column
     → is_some (get_or given 0 None) ≡ true
@@ -339,8 +333,20 @@ pub record CanGather (old mid : Gathering) (given : List (Option LaneCell)) (j :
   pub within : old.at < old.params.f
   pub lanes : length given ≡ old.params.l
   pub inside : j < octets_per_tick old.params
-  pub size : length old.octets ≡ old.params.l * old.params.f
+  pub size : length mid.octets ≡ old.params.l * old.params.f
   pub put : HasPut old mid given j
+
+pub can-gather : (old mid : Gathering) (given : List (Option LaneCell)) (j : ℕ)
+    → mid.at < mid.params.f → length mid.octets ≡ mid.params.l * mid.params.f
+    → length given ≡ old.params.l → j < octets_per_tick old.params → HasPut old mid given j
+    → CanGather old mid given j
+can-gather old mid given j within size lanes inside put = record {
+  within = (let at = put.same_at in let f = ap (λ p. p.f) put.same_params in omega arith);
+  lanes = lanes;
+  inside = inside;
+  size = rw put.same_params at size;
+  put = put;
+}
 
 part-of-put : (old mid : Gathering) (given : List (Option LaneCell)) (j : ℕ) (columns : Columns)
     (column : List LaneCell)
@@ -421,10 +427,9 @@ gathers-whole old mid now given j past is can =
           let octets = octet_column p column j in
           let q = length columns / p.f in
           let part = rw all_there at (part-of-put old mid given j columns column can had all) in
-          let size = can.put.size ∙ can.size in
           frames ∙ ap (λ (fs : List Whole). old.frames ++ fs)
           (ap (λ (f : Whole). f ∷ [])
-          (sym (whole-is p (columns ++ octets ∷ []) q mid.mark mid.octets size part))
+          (sym (whole-is p (columns ++ octets ∷ []) q mid.mark mid.octets can.size part))
           ∙ sym (cond-true ((length columns + 1) % p.f == 0)
           (whole_of p (columns ++ octets ∷ []) q ∷ []) []
           (eq-eqb ((length columns + 1) % p.f) 0 next.0)));
@@ -532,3 +537,30 @@ taken-more old mid now given j some had more =
           ap₂ (λ (ds : Columns) (k : ℕ). map (whole_of p ds) (numbers_from (n / f) (k / f - n / f)))
           (firsts-more p columns column j) sum);
     }
+
+-- all octets of the tick
+pub all-taken : (old now : Gathering) (given : List (Option LaneCell)) (j : ℕ) (p : Params)
+    (columns : Columns) (column : List LaneCell)
+    → j ≡ octets_per_tick old.params → HasTaken old now given j → HasGathered old p columns
+    → given ≡ map (λ c. Some c) column
+    → HasGathered now p (columns ++ octet_columns p column)
+    × FramesAre now.frames p (length columns) (columns ++ octet_columns p column)
+all-taken old now given j p columns column end had first all =
+    let same = first.same_params in
+    let own : HasGathered old old.params columns =
+    subst (λ q. HasGathered old q columns) (sym same) first in
+    let firsts : first_columns old.params column j ≡ octet_columns p column =
+    ap₂ (λ (q : Params) (k : ℕ). first_columns q column k) same (end ∙ ap octets_per_tick same) in
+    let long : length columns + j ≡ length (columns ++ octet_columns p column) =
+    sym (length-firsts old.params columns column j)
+    ∙ ap (λ (cs : Columns). length (columns ++ cs)) firsts in (
+      subst (λ (cs : Columns). HasGathered now p (columns ++ cs)) firsts
+          (subst (λ (q : Params). HasGathered now q (columns ++ first_columns old.params column j))
+          same (had.goes_on columns column own all)),
+      had.frames columns column own all
+          ∙ ap₂ (λ (q : Params) (cs : Columns). map (whole_of q (columns ++ cs))
+          (numbers_from (length columns / q.f)
+          ((length columns + j) / q.f - length columns / q.f))) same firsts
+          ∙ ap (λ (n : ℕ). map (whole_of p (columns ++ octet_columns p column))
+          (numbers_from (length columns / p.f) (n / p.f - length columns / p.f))) long,
+    )
