@@ -3,6 +3,7 @@ use Rattle.std.proofs.Common.{◌≡◌, ℕ, zero, suc, ◌+◌, ◌-◌, ◌*�
 use Rattle.std.proofs.lemmas.List.{length-map, map-append, map_push, take_more}
 use Rattle.std.proofs.lemmas.List.Elements.{filter-append}
 use Rattle.std.proofs.lemmas.List.Sums.{count_by-le-length, fold-append, length-filter}
+use Rattle.std.proofs.lemmas.Simd.{map-map}
 use Rattle.std.proofs.lemmas.Option.{get_or_from_slice_get, slice_get_within}
 use Rattle.link_params.specs.declared.alarms.Alarm.{Alarm}
 use Rattle.link_params.specs.declared.alarms.Device.TheVariants.{Tx, Rx}
@@ -207,3 +208,158 @@ each-is {A} {B} g (x ∷ xs) d =
     (λ j below. let next : 1 + j ≡ suc j = omega arith in
     ap (λ (k : ℕ). g (get_or (x ∷ xs) k d)) next)
     ∙ each-is g xs d)
+
+pub none-counted : (n : Totals) → n ≡ with_marks n []
+none-counted n =
+    let delivered : n.delivered + 0 ≡ n.delivered = omega arith in
+    let ok : n.ok + 0 ≡ n.ok = omega arith in
+    let fixed : n.fixed + 0 ≡ n.fixed = omega arith in
+    let bad : n.bad + 0 ≡ n.bad = omega arith in
+    sym (rw (delivered, ok, fixed, bad) refl)
+
+-- the row of frame i of those that leave
+pub leaving-shown : (shown : Bool) (rows : List Printed) (p : Params) (end : ℕ)
+    (frames : List Whole) (begun i time : ℕ) (frame : Whole)
+    → time ≡ end + i * p.f - (begun + length frames * p.f) → frame ≡ get_or frames i no_frame
+    → rows ++ (if shown then leaving_rows p end frames begun (i + 1) else [])
+    ≡ (rows ++ (if shown then leaving_rows p end frames begun i else []))
+    ++ (if shown then (record { row = row.Frame time frame.mark; words = frame.words }) ∷ [] else [])
+leaving-shown shown rows p end frames begun i time frame left is =
+    let old : List Printed = leaving_rows p end frames begun i in
+    ap (λ (xs : List Printed). rows ++ (if shown then xs else []))
+    (leaving-more p end frames begun i
+    ∙ ap₂ (λ (at : ℕ) (f : Whole). let x : Printed =
+    record { row = row.Frame at f.mark; words = f.words } in old ++ x ∷ []) (sym left) (sym is))
+    ∙ shown-more shown rows old (record { row = row.Frame time frame.mark; words = frame.words })
+
+-- ---- a tick
+
+-- the rows of a tick, as they are added; n: how many frames began before it
+unfoldable pub seen_rows : Ticked → List Alarm → List Whole → ℕ → Plan → ℕ → ℕ → ℕ → List Printed
+    → List Printed
+seen_rows x alarms frames begun s t end n rows =
+    ((((((rows ++ bares (if x.rx_reset then row.Hunt t ∷ [] else []))
+    ++ alarm_rows t (off_alarm Tx x.tx_off))
+    ++ alarm_rows t (off_alarm Rx x.rx_off))
+    ++ (if prints_all s.print then enter_rows s n (entered_at s.link.params t x.place) else []))
+    ++ alarm_rows t alarms)
+    ++ bares (decision_rows t x.decision))
+    ++ (if prints_frames s.print then map frame_row (delivered_of s.link.params end frames begun)
+    else [])
+
+in-a-row : (a b c d e f g r : List Printed) → ((((((r ++ a) ++ b) ++ c) ++ d) ++ e) ++ f) ++ g ≡ r
+    ++ (a ++ ((b ++ c) ++ (d ++ (e ++ (f ++ g)))))
+in-a-row a b c d e f g r = grind (arith, append_assoc)
+
+-- the octet times at which frames began
+entered-seen : (x : Ticked) (alarms : List Alarm) (frames : List Whole) (begun : ℕ) (s : Plan)
+    (h : History)
+    → IsSeen x alarms frames begun s h
+    → (moment_of s h).entered ≡ entered_at s.link.params (length h) x.place
+entered-seen x alarms frames begun s h seen =
+    entered-next (kind_of s.link.params) s h
+    ∙ ap (entered_at s.link.params (length h)) (sym seen.place)
+
+tick-rows : (x : Ticked) (alarms : List Alarm) (frames : List Whole) (begun : ℕ) (s : Plan)
+    (h : History) (rows : List Printed)
+    → IsSeen x alarms frames begun s h
+    → seen_rows x alarms frames begun s (length h) (octets_per_tick s.link.params * (length h + 1))
+    (frames_before h) rows
+    ≡ rows ++ rows_of_tick s (length h) (frames_before h) (moment_of s h)
+unfolding seen_rows rows_of_tick off_alarms
+tick-rows x alarms frames begun s h rows seen =
+    rw (
+      ← seen.rx_reset,
+      ← seen.tx_off,
+      ← seen.rx_off,
+      entered-seen x alarms frames begun s h seen,
+      ← seen.alarms_are,
+      ← seen.decision,
+      seen.delivered_is,
+      alarm-rows-append (length h) (off_alarm Tx x.tx_off) (off_alarm Rx x.rx_off),
+    ) (in-a-row _ _ _ _ _ _ _ rows)
+
+pub seen-rows : (x : Ticked) (alarms : List Alarm) (frames : List Whole) (begun : ℕ) (s : Plan)
+    (h : History) (t end n : ℕ)
+    → IsSeen x alarms frames begun s h → t ≡ length h
+    → end ≡ octets_per_tick s.link.params * (t + 1) → n ≡ frames_before h
+    → seen_rows x alarms frames begun s t end n (rows_so_far s h)
+    ≡ rows_so_far s (h ++ moment_of s h ∷ [])
+seen-rows x alarms frames begun s h t end n seen at past before =
+    ap₂ (λ (a b : ℕ). seen_rows x alarms frames begun s a b n (rows_so_far s h)) at (past
+    ∙ ap (λ (a : ℕ). octets_per_tick s.link.params * (a + 1)) at)
+    ∙ ap (λ (k : ℕ). seen_rows x alarms frames begun s (length h)
+    (octets_per_tick s.link.params * (length h + 1)) k (rows_so_far s h)) before
+    ∙ tick-rows x alarms frames begun s h (rows_so_far s h) seen
+    ∙ ap (λ (l : List Printed). bare row.Link ∷ bare (row.Hunt 0) ∷ l)
+    (sym (rows-more s h (moment_of s h)))
+
+-- the counts, as they are added
+unfoldable pub seen_counts : Ticked → List Alarm → List Whole → Params → ℕ → Totals → Totals
+seen_counts x alarms frames p t n =
+    let offs = with_alarms (with_alarms n (length (off_alarm Tx x.tx_off)))
+    (length (off_alarm Rx x.rx_off)) in
+    let begun : Totals = record offs {
+      entered = offs.entered + length (entered_at p t x.place);
+    } in
+    let left = with_marks (with_alarms begun (length alarms)) (map (λ (f : Whole). f.mark) frames) in
+    record left { ticks = left.ticks + 1; fullest = x.fullest }
+
+marks-of : (p : Params) (end : ℕ) (frames : List Whole) (begun : ℕ)
+    → map (λ (d : Delivered). d.mark) (delivered_of p end frames begun)
+    ≡ map (λ (f : Whole). f.mark) frames
+marks-of p end frames begun =
+    map-map (λ (d : Delivered). d.mark) (leaving p end frames begun)
+    (numbers_from 0 (length frames))
+    ∙ each-is (λ (f : Whole). f.mark) frames no_frame
+
+offs-of : (s : Plan) (t : ℕ) (tx rx : Option ℕ) → tx ≡ off s Tx t → rx ≡ off s Rx t
+    → length (off_alarms s t) ≡ length (off_alarm Tx tx) + length (off_alarm Rx rx)
+unfolding off_alarms
+offs-of s t tx rx is_tx is_rx =
+    rw (is_tx, is_rx) (length-append (off_alarm Tx (off s Tx t)) (off_alarm Rx (off s Rx t)))
+
+counted : (x : Ticked) (alarms : List Alarm) (frames : List Whole) (p : Params) (s : Plan)
+    (h : History)
+    → seen_counts x alarms frames p (length h) (totals s h) ≡ record {
+      ticks = length h + 1;
+      entered = frames_before h + length (entered_at p (length h) x.place);
+      delivered = length (marks h) + length (map (λ (f : Whole). f.mark) frames);
+      ok = count_by is_ok (marks h) + count_by is_ok (map (λ (f : Whole). f.mark) frames);
+      fixed = count_by is_fixed (marks h) + count_by is_fixed (map (λ (f : Whole). f.mark) frames);
+      bad = count_by is_bad (marks h) + count_by is_bad (map (λ (f : Whole). f.mark) frames);
+      alarms =
+          alarms_from s 0 h + (length (off_alarm Tx x.tx_off) + length (off_alarm Rx x.rx_off)
+          + length alarms);
+      fullest = x.fullest;
+    }
+unfolding seen_counts totals
+counted x alarms frames p s h =
+    let a = alarms_from s 0 h in
+    let tx = length (off_alarm Tx x.tx_off) in
+    let rx = length (off_alarm Rx x.rx_off) in
+    let all : a + tx + rx + length alarms ≡ a + (tx + rx + length alarms) = omega arith in
+    rw (sym all) refl
+
+pub seen-counts : (x : Ticked) (alarms : List Alarm) (frames : List Whole) (begun : ℕ) (s : Plan)
+    (h : History) (t : ℕ)
+    → IsSeen x alarms frames begun s h → t ≡ length h
+    → seen_counts x alarms frames s.link.params t (totals s h) ≡ totals s (h ++ moment_of s h ∷ [])
+seen-counts x alarms frames begun s h t seen at =
+    let m = moment_of s h in
+    let p = s.link.params in
+    let ms : List Mark = map (λ (f : Whole). f.mark) frames in
+    let began : length m.entered ≡ length (entered_at p (length h) x.place) =
+    ap length (entered-seen x alarms frames begun s h seen) in
+    let same_marks : map (λ (d : Delivered). d.mark) m.delivered ≡ ms =
+    ap (map (λ (d : Delivered). d.mark)) seen.delivered_is ∙ marks-of p _ frames begun in
+    let gone : length m.delivered ≡ length ms =
+    sym (length-map m.delivered (λ (d : Delivered). d.mark)) ∙ ap length same_marks in
+    let full = seen.fullest ∙ fullest-more h m in
+    let offs : length (off_alarms s (length h)) ≡ length (off_alarm Tx x.tx_off) + length
+    (off_alarm Rx x.rx_off) =
+    offs-of s (length h) x.tx_off x.rx_off seen.tx_off seen.rx_off in
+    let raised = ap length seen.alarms_are in
+    ap (λ (k : ℕ). seen_counts x alarms frames p k (totals s h)) at
+    ∙ counted x alarms frames p s h
+    ∙ rw (totals-more s h m, began, gone, same_marks, ← full, offs, ← raised) refl
