@@ -1,6 +1,6 @@
 -- The two ends of a lane of either kind, by the mode of the link.
-use Rattle.std.proofs.Common.{◌≡◌, ℕ, ◌+◌, ◌-◌, ◌%◌, ◌<◌, Bool, true, false, List, [], ◌∷◌, ◌++◌, map, length, get_or, Option, Some, None, refl, sym, ap, ◌∙◌}
-use Rattle.std.proofs.lemmas.List.{map-append}
+use Rattle.std.proofs.Common.{◌≡◌, ℕ, ◌+◌, ◌-◌, ◌%◌, ◌<◌, Bool, true, false, List, [], ◌∷◌, ◌++◌, map, length, get_or, Option, Some, None, refl, sym, ap, ◌∙◌, arith}
+use Rattle.std.proofs.lemmas.List.{length-drop, length-map, map-append}
 use Rattle.jesd_base.specs.Bits.{bits}
 use Rattle.link_params.specs.declared.fields.Params.{Params}
 use Rattle.link_params.specs.declared.fields.Timing.{Timing}
@@ -9,7 +9,7 @@ use Rattle.link_params.specs.declared.fields.Mode.TheVariants.{B, CCrc, CFec}
 use Rattle.link_params.specs.declared.lane_report.LaneReport.{LaneReport}
 use Rattle.link_params.specs.declared.orders.TxOrder.{TxOrder}
 use Rattle.link_params.specs.declared.orders.TxOrder.TheVariants.{Comma, Ilas, Data, Silent, Block}
-use Rattle.link_params.specs.Lanes.{Entry, Handed, Taken}
+use Rattle.link_params.specs.Lanes.{Entry, Handed, Held, Taken}
 use Rattle.link_params.specs.Laws.{is_b}
 use Rattle.link_params.specs.Numbers.{width}
 use Rattle.lane_b.specs.Received.{entries_b, report_b}
@@ -19,6 +19,9 @@ use Rattle.lane_c.specs.Received.{entries_c, report_c}
 use Rattle.lane_c.specs.Senders.{Follows as FollowsC, next_place as next_place_c}
 use Rattle.lane_c.specs.Sent.{sent_c}
 use Rattle.link_model.specs.Kinds.{kind_of}
+use Rattle.link_run.specs.declared.rx_lane.RxLane.{RxLane}
+use Rattle.link_run.specs.declared.rx_lane.RxLane.TheVariants as rx
+use Rattle.link_run.specs.LaneEnds.{HasTaken, buffer_in}
 use Rattle.link_run.specs.Sendings.{next_after}
 
 -- ---- the mode of a kind
@@ -57,6 +60,17 @@ entries-of-b p t lane taken e = rw e refl
 pub entries-of-c : (p : Params) (t : Timing) (lane : ℕ) (taken : List Taken) → is_b p.mode ≡ false
     → (kind_of p).entries p t lane taken ≡ entries_c p t lane taken
 entries-of-c p t lane taken e = rw e refl
+
+-- a buffer holds the entries that were not given
+pub buffer-count : (x : RxLane) (p : Params) (t : Timing) (lane : ℕ) (taken : List Taken) (gave : ℕ)
+    → HasTaken x p t lane taken gave
+    → length (buffer_in x).cells ≡ length ((kind_of p).entries p t lane taken) - gave
+buffer-count (rx.B x) p t lane taken gave h = rw h.0 h.1.holds.count
+buffer-count (rx.C x) p t lane taken gave h =
+    let held = length-map x.buffer.cells Held in
+    let left = length-drop gave (entries_c p t lane taken) in
+    let wait = ap length h.1.holds.wait in
+    rw h.0 (omega arith)
 
 -- ---- one tick more
 
