@@ -15,7 +15,7 @@ use Rattle.link_model.specs.Edges.{is_reset}
 use Rattle.link_model.specs.Kinds.{kind_of, moment_of}
 use Rattle.link_model.specs.LaneRuns.{lane_ready, lane_run, lane_stepped}
 use Rattle.link_model.specs.Moments.{History}
-use Rattle.link_run.specs.Gathered.{Gathering, HasGathered, delivered_of}
+use Rattle.link_run.specs.Gathered.{Gathering, HasGathered, Whole, delivered_of}
 use Rattle.link_run.specs.Happened.{are_past}
 use Rattle.link_run.specs.LaneRuns.{AreAt, HaveRun, Pair}
 use Rattle.link_run.specs.ReceiverRuns.{HasReceivedRun, RxEnd}
@@ -95,4 +95,6 @@ pub record HasGiven (now : LinkView) (s : Plan) (h : History) : Type 0 where
   pub gathered : HasGathered now.gathering s.link.params (columns_of s (h ++ moment_of s h ∷ []))
   pub delivered : (moment_of s h).delivered ≡ delivered_of s.link.params
       (octets_per_tick s.link.params * (length h + 1)) now.gathering.frames now.gathering.at
+  pub words : All (λ (f : Whole). length f.words ≡ s.link.params.m * s.link.params.s)
+      now.gathering.frames
   pub given : length now.given ≡ s.link.params.l

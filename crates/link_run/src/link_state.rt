@@ -1,5 +1,5 @@
 //! Both ends of a link, and the lanes between them.
-ghost use Rattle.std.specs.Prelude.{◌≡◌, ◌≤◌, ◌<◌, ◌+◌, ◌*◌, ◌++◌, ◌∷◌, [], ℕ, length, Option, None, Some, fold, max, if◌then◌else◌, IfOk};
+ghost use Rattle.std.specs.Prelude.{◌≡◌, ◌≤◌, ◌<◌, ◌+◌, ◌*◌, ◌++◌, ◌∷◌, [], ℕ, length, Option, None, Some, fold, max, if◌then◌else◌, All, IfOk, IfSome};
 ghost use Rattle.std.specs.List.{flat_map};
 ghost use Rattle.link_params.specs.declared.fields.Params.{Params as ParamsValue};
 ghost use Rattle.bring_up.specs.declared.stage.Stage.TheVariants as stage;
@@ -7,7 +7,7 @@ ghost use Rattle.bring_up.specs.Decisions.{is_hunting};
 ghost use Rattle.scenario.specs.Plans.{Plan, plan_of};
 ghost use Rattle.link_model.specs.Kinds.{run_of};
 ghost use Rattle.link_model.specs.Before.{Columns};
-ghost use Rattle.link_run.specs.Gathered.{HasGathered};
+ghost use Rattle.link_run.specs.Gathered.{HasGathered, Whole};
 ghost use Rattle.link_run.specs.LaneRuns.{AreAt, HaveRun};
 ghost use Rattle.link_model.specs.LaneRuns.{LaneRun};
 ghost use Rattle.link_run.specs.LinkStates.{CanGive, CanStep, HasGiven, HasHappened, HasRun, HasStepped};
@@ -91,9 +91,11 @@ impl LinkState {
         requires stands { (plan : Plan) → plan_of s.now ≡ Some plan
             → HasRun self.old plan (run_of plan t) }
         ensures seen { (plan : Plan) → plan_of s.now ≡ Some plan
-            → IsSeen result self.new.rx.alarms self.new.gathering plan (run_of plan t) }
+            → IsSeen result self.new.rx.alarms self.new.gathering.frames self.new.gathering.at plan (run_of plan t) }
         ensures goes_on { (plan : Plan) → plan_of s.now ≡ Some plan
             → HasRun self.new plan (run_of plan (t + 1)) }
+        ensures place { IfSome result.place (λ x. x < 1024) }
+        ensures words { All (λ (f : Whole). length f.words ≡ s.now.shape.m * s.now.shape.s) self.new.gathering.frames }
         ensures same { self.new.link ≡ self.old.link }
     {
         let happened = self.happen(s, t);
