@@ -18,5 +18,6 @@ pub mod RunFacts
 pub mod EventLemmas
 pub mod TickRows
 pub mod LaneStates
+pub mod Rooms
 pub mod GiveFacts
 pub mod TickFacts

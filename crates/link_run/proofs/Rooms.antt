@@ -19,24 +19,13 @@ use Rattle.link_model.specs.Kinds.{kind_of, moment_of, run_of}
 use Rattle.link_model.specs.LaneRuns.{lane_ready, lane_stepped}
 use Rattle.link_model.specs.Moments.{History}
 use Rattle.link_model.specs.Receives.{told_of}
-use Rattle.link_run.specs.LaneEnds.{HasTaken, buffer_in}
+use Rattle.link_run.proofs.KindEnds.{buffer-count}
 use Rattle.link_run.specs.LaneRuns.{HaveRun, HaveEntries, HaveRoom, Pair}
 
 -- the link is legal
 pub record IsGood (k : Link) : Type 0 where
   pub laws : broken_law k.params ≡ None
   pub timing : broken_timing k.params k.timing ≡ None
-
--- a buffer holds the entries that were not given
-buffer-count : (x : RxLane) (p : Params) (t : Timing) (lane : ℕ) (taken : List Taken) (gave : ℕ)
-    → HasTaken x p t lane taken gave
-    → length (buffer_in x).cells ≡ length ((kind_of p).entries p t lane taken) - gave
-buffer-count (rx.B x) p t lane taken gave h = rw h.0 h.1.holds.count
-buffer-count (rx.C x) p t lane taken gave h =
-    let held = length-map x.buffer.cells Held in
-    let left = length-drop gave (entries_c p t lane taken) in
-    let wait = ap length h.1.holds.wait in
-    rw h.0 (omega arith)
 
 -- each lane that is ready has room, where no hunt begins
 pub ready-room : (lanes : List Pair) (s : Plan) (t : ℕ) → IsGood s.link
