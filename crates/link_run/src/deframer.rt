@@ -3,6 +3,7 @@ ghost use Rattle.std.specs.Prelude.{◌≡◌, ◌<◌, ◌≤◌, ◌++◌, [],
 ghost use Rattle.link_params.specs.declared.fields.Params.{Params as ParamsValue};
 ghost use Rattle.link_params.specs.declared.cells.LaneCell.{LaneCell as CellValue};
 ghost use Rattle.link_params.specs.declared.cells.Mark.TheVariants as mark;
+ghost use Rattle.link_params.specs.Laws.{broken_law};
 ghost use Rattle.link_params.specs.Numbers.{octets_per_tick};
 ghost use Rattle.link_model.specs.Before.{Columns, octet_columns};
 ghost use Rattle.link_run.specs.Gathered.{FramesAre, GathersOn, HasFinished, HasGathered, HasPut, HaveFrameSizes};
@@ -133,7 +134,8 @@ impl Deframer {
 
     // The octets of a whole frame are there.
     fn finish(&mut self)
-        requires { length self.old.frames < octets_per_tick self.old.params }
+        requires room { length self.old.frames < octets_per_tick self.old.params }
+        requires legal { broken_law self.old.params ≡ None }
         ensures { HasFinished self.old self.new }
     {
         layout_laws();

@@ -45,7 +45,9 @@ impl Feed {
     /// A feed from which no frame has begun. All its memory is taken here; `NoMemory` where there
     /// is none.
     pub fn open(alloc: Global, s: &Scenario) -> Result<Feed, NoMemory>
-        ensures { (plan : Plan) → plan_of s.now ≡ Some plan → IfOk result (λ f. HasFed f plan 0) }
+        ensures fed { (plan : Plan) → plan_of s.now ≡ Some plan
+            → IfOk result (λ f. HasFed f plan 0) }
+        ensures shape { IfOk result (λ f. f.params ≡ s.now.shape) }
     {
         let size = (s.shape.lanes() * s.shape.frame_octets()) as usize;
         let count = s.shape.frame_words() as usize;

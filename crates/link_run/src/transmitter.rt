@@ -61,13 +61,14 @@ impl Transmitter {
             → IfOk result (λ t. HasSentRun t plan []) }
         ensures idle { (p : ParamsValue) → IfOk result (λ t. next_of p t.sending ≡ None) }
     {
+        let params = link.shape().params();
         let Ok(handed) = vec![in alloc; 0u64; s.shape.lanes() as usize] else {
             return Err(NoMemory);
         };
         Ok(Transmitter {
             clock: DeviceClock::new(link, &s.jitters, Device::Tx),
             sync: SyncLine::open(alloc, link.timing().sync_delay)?,
-            sending: Sending::new(link.shape().params().mode),
+            sending: Sending::new(params.mode),
             feed: Feed::open(alloc, s)?,
             handed,
         })
