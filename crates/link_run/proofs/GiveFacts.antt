@@ -1,6 +1,7 @@
 -- What the lanes give in a tick, and the frames that leave.
 use Rattle.std.proofs.Common.{◌≡◌, ◌∙◌, ◌<◌, ◌≤◌, ◌+◌, ◌-◌, ◌*◌, ◌/◌, ◌%◌, ◌&&◌, nat_le, ℕ, Bool, true, false, List, [], ◌∷◌, ◌++◌, map, length, get_or, if◌then◌else◌, arith, sym, ap, ap₂, subst, refl, length-append, append-nil}
 use Rattle.std.specs.Prelude.{All}
+use Rattle.std.proofs.Math.Nat.{mod-lt}
 use Rattle.std.proofs.lemmas.Bool.{le-leb, lt-leb}
 use Rattle.std.proofs.lemmas.List.{get_or-map, length-map}
 use Rattle.std.proofs.lemmas.List.Elements.{All-map}
@@ -192,3 +193,11 @@ still-gathered now p columns frames h = record {
 
 pub no-words : (p : Params) → All (λ (f : Whole). length f.words ≡ p.m * p.s) []
 no-words p = λ k d inside. absurd (omega arith)
+
+pub begun-few : (s : Plan) (h : History) (now : Gathering) (columns : Columns) → IsRunOf s h
+    → HasGathered now s.link.params columns → now.at ≤ 256
+begun-few s h now columns r gathered =
+    let count = gathered.count in
+    let small = mod-lt (length columns) r.octets in
+    let few = r.few_octets in
+    omega arith

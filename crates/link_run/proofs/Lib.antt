@@ -15,6 +15,7 @@ pub mod Marks
 pub mod Gathering
 pub mod NamedOctets
 pub mod RunFacts
+pub mod Rooms
 pub mod EventLemmas
 pub mod TickRows
 pub mod LaneStates

@@ -1,5 +1,5 @@
 -- What holds in each tick of a run of a legal link.
-use Rattle.std.proofs.Common.{◌≡◌, ℕ, ◌-◌, ◌<◌, List, [], length, map, None, ap, sym, ◌∙◌}
+use Rattle.std.proofs.Common.{◌≡◌, ℕ, ◌-◌, ◌<◌, ◌≤◌, List, [], length, map, None, ap, sym, ◌∙◌}
 use Rattle.std.proofs.lemmas.Simd.{map-map}
 use Rattle.link_params.specs.Lanes.{Entry, LaneKind, Taken}
 use Rattle.link_params.specs.Laws.{broken_law}
@@ -27,6 +27,7 @@ pub record IsRunOf (s : Plan) (h : History) : Type 0 where
   pub legal : IsLegal s.link.params s.link.timing
   pub lanes : 0 < s.link.params.l
   pub octets : 0 < s.link.params.f
+  pub few_octets : s.link.params.f ≤ 256
   pub begun : HasHunt h
   pub kept : HaveDepth (kind_of s.link.params) s h
   pub armed : HasArmed s h
@@ -42,6 +43,7 @@ is-run t s laws timing =
       legal = legal s.link.params s.link.timing laws timing;
       lanes = sizes.l_low;
       octets = sizes.f_low;
+      few_octets = sizes.f;
       begun = has-hunt-run k t s;
       kept = λ lane below. depth-run k t s lane facts laws timing below;
       armed = armed-run k t s;

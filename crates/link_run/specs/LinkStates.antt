@@ -1,6 +1,6 @@
 -- What both ends of a link and the lanes between them keep of a run.
 -- Code: both ends, a list of lanes, and one frame.
-use Rattle.std.specs.Prelude.{◌≡◌, ◌<◌, ℕ, ◌+◌, ◌*◌, true, if◌then◌else◌, List, [], ◌∷◌, ◌++◌, All, length, Option, None}
+use Rattle.std.specs.Prelude.{◌≡◌, ◌<◌, ◌≤◌, ℕ, ◌+◌, ◌*◌, true, if◌then◌else◌, List, [], ◌∷◌, ◌++◌, All, length, Option, None}
 use Rattle.link_params.specs.declared.alarms.Device.TheVariants.{Tx, Rx}
 use Rattle.link_params.specs.declared.cells.LaneCell.{LaneCell}
 use Rattle.link_params.specs.declared.orders.RxOrder.{RxOrder}
@@ -97,4 +97,5 @@ pub record HasGiven (now : LinkView) (s : Plan) (h : History) : Type 0 where
       (octets_per_tick s.link.params * (length h + 1)) now.gathering.frames now.gathering.at
   pub words : All (λ (f : Whole). length f.words ≡ s.link.params.m * s.link.params.s)
       now.gathering.frames
+  pub begun : now.gathering.at ≤ 256
   pub given : length now.given ≡ s.link.params.l

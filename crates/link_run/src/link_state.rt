@@ -96,6 +96,7 @@ impl LinkState {
             → HasRun self.new plan (run_of plan (t + 1)) }
         ensures place { IfSome result.place (λ x. x < 1024) }
         ensures words { All (λ (f : Whole). length f.words ≡ s.now.shape.m * s.now.shape.s) self.new.gathering.frames }
+        ensures begun { self.new.gathering.at ≤ 256 }
         ensures same { self.new.link ≡ self.old.link }
     {
         let happened = self.happen(s, t);

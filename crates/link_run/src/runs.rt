@@ -1,5 +1,5 @@
 //! A run, tick by tick.
-ghost use Rattle.std.specs.Prelude.{◌≡◌, ◌<◌, ◌+◌, IfOk, OnOk, IsTrue, is_some, Some, []};
+ghost use Rattle.std.specs.Prelude.{◌≡◌, ◌<◌, ◌+◌, ◌*◌, IfOk, OnOk, IsTrue, is_some, Some, []};
 ghost use Rattle.scenario.specs.Plans.{Plan, plan_of};
 ghost use Rattle.link_run.specs.LinkStates.{HasRun};
 ghost use Rattle.link_model.specs.Kinds.{report_of, run_of};
@@ -27,7 +27,7 @@ pub struct Ran {
 pub fn run(alloc: Global, s: &Scenario) -> Result<Ran, NoMemory>
     requires link { IsTrue (is_some s.now.link) }
     ensures text { (plan : Plan) → plan_of s.now ≡ Some plan
-        → IfOk result (λ r. r.text.items ≡ report lanes_b plan) }
+        → IfOk result (λ r. r.text.items ≡ report_of plan) }
     ensures totals { (plan : Plan) → plan_of s.now ≡ Some plan
         → IfOk result (λ r. r.totals ≡ totals plan (run_of plan plan.ticks)) }
 {
@@ -50,6 +50,7 @@ fn open_report(alloc: Global, s: &Scenario) -> Result<Report, NoMemory>
     ensures reported { (plan : Plan) → plan_of s.now ≡ Some plan
         → IfOk result (λ r. HasReported r plan []) }
     ensures few { IfOk result (λ r. AreFew r.totals 0) }
+    ensures size { IfOk result (λ r. r.size ≡ s.now.shape.m * s.now.shape.s) }
 {
     let mut report = Report::open(alloc, s)?;
     report.row(s, &Row::Link, &[])?;
@@ -71,11 +72,13 @@ fn run_tick(
     requires reported { (plan : Plan) → plan_of s.now ≡ Some plan
         → HasReported report.old plan (run_of plan t) }
     requires few { AreFew report.old.totals t }
+    requires size { report.old.size ≡ s.now.shape.m * s.now.shape.s }
     ensures stands { (plan : Plan) → plan_of s.now ≡ Some plan
         → HasRun state.new plan (run_of plan (t + 1)) }
     ensures reported { (plan : Plan) → plan_of s.now ≡ Some plan
         → OnOk result (HasReported report.new plan (run_of plan (t + 1))) }
     ensures few { OnOk result (AreFew report.new.totals (t + 1)) }
+    ensures size { report.new.size ≡ report.old.size }
     ensures same { state.new.link ≡ state.old.link }
 {
     let most = report.totals().fullest;

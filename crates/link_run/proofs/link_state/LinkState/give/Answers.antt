@@ -20,7 +20,7 @@ use Rattle.link_model.proofs.NumberLists.{length-numbers}
 use Rattle.link_run.specs.Gathered.{Gathering, HasGathered}
 use Rattle.link_run.specs.LaneRuns.{AreAt, Pair}
 use Rattle.link_run.specs.LinkStates.{CanGive, LinkView, columns_left}
-use Rattle.link_run.proofs.GiveFacts.{columns-early, columns-late, columns-still, delivered-frames, delivered-nothing, have-words, lane-gave, lane-still, no-words, not-running, still-gathered, with_tick}
+use Rattle.link_run.proofs.GiveFacts.{begun-few, columns-early, columns-late, columns-still, delivered-frames, delivered-nothing, have-words, lane-gave, lane-still, no-words, not-running, still-gathered, with_tick}
 use Rattle.link_run.proofs.LaneStates.{have-same, link-of, plan-there}
 use Rattle.link_run.proofs.Rooms.{IsGood, stepped-entry}
 use Rattle.link_run.proofs.RunFacts.{is-run}
@@ -61,6 +61,7 @@ returns-in-Hunt c = record {
             (still-gathered _ p _ [] can.gathered);
         delivered = rw none (delivered-nothing s h c.rest.new.self.at (delivered-still k s h still));
         words = rw none (no-words p);
+        begun = rw c.rest.ensures (begun-few s h _ (columns_left s h) r can.gathered);
         given = can.given;
       };
   at = λ q n at. subst (λ x. AreAt x.lanes q n) (sym c.self.view_is) at;
@@ -131,6 +132,7 @@ returns-in-Run-clause-gave c = λ s is.
             delivered = rw none (delivered-nothing s h c.take.new.self.at
                 (delivered-early k s h r.facts r.legal r.lanes r.octets r.begun r.kept early));
             words = rw none (no-words p);
+            begun = rw rests (begun-few s h _ (columns_left s h) r can.gathered);
             given = size;
           }
       | inr late ↦
@@ -146,6 +148,7 @@ returns-in-Run-clause-gave c = λ s is.
             delivered = delivered-frames s h c.take.new.self more r columns frames gathered;
             words = have-words p (length (columns_left s h)) (columns_left s h ++ more)
                 c.take.new.self.frames frames;
+            begun = begun-few s h c.take.new.self (columns_left s h ++ more) r gathered;
             given = size;
           }
     ]

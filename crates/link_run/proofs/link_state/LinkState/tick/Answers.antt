@@ -192,6 +192,11 @@ returns-clause-words c =
     subst (λ p. All (λ (f : Whole). length f.words ≡ p.m * p.s) c.give.new.self.gathering.frames)
     (same_params c.args.s.now s is) (c.give.ensures.gave s is).words
 
+pub returns-clause-begun : goal.returns-clause-begun
+returns-clause-begun c =
+    let (s, is) = plan-there c.args.s.now c.args.self.now.link c.requires.link in
+    (c.give.ensures.gave s is).begun
+
 pub returns-clause-same : goal.returns-clause-same
 returns-clause-same c =
     let (s, is) = plan-there c.args.s.now c.args.self.now.link c.requires.link in
