@@ -1,5 +1,5 @@
 -- Frames as they are gathered, by columns of octets.
-use Rattle.std.proofs.Common.{◌≡◌, ℕ, ◌+◌, ◌-◌, ◌*◌, ◌/◌, ◌%◌, ◌==◌, ◌<◌, ◌≤◌, if◌then◌else◌, List, [], ◌∷◌, ◌++◌, map, length, get_or, set, take, get_or-set_other, get_or-set_same, refl, ap, ap₂, ◌∙◌, sym, subst, append_assoc, arith, inl, inr, Bool, true, false, Some, None, ne_eqb}
+use Rattle.std.proofs.Common.{◌≡◌, ℕ, ◌+◌, ◌-◌, ◌*◌, ◌/◌, ◌%◌, ◌==◌, ◌<◌, ◌≤◌, if◌then◌else◌, List, [], ◌∷◌, ◌++◌, map, length, get_or, set, take, get_or-set_other, get_or-set_same, refl, ap, ap₂, ◌∙◌, sym, subst, append_assoc, arith, inl, inr, true, false, Some, None, ne_eqb}
 use Rattle.std.specs.Prelude.{fold, is_some, slice_index, Option}
 use Rattle.std.proofs.Math.Seq.{get_or-append_seam, take-length}
 use Rattle.std.proofs.Math.ListN.{get_or-append}
@@ -23,10 +23,10 @@ use Rattle.link_run.proofs.Marks.{IsWorst, get_or-cells, lane-lt, length-cells, 
 use Rattle.link_run.specs.Gathered.{FramesAre, Gathering, GathersOn, HasFinished, HasGathered, HasPut, Whole, octet_at, whole_of}
 
 -- m octets of each lane are there, with this mark
-pub record IsPart (p : Params) (m : ℕ) (cell : ℕ → ℕ → LaneCell) (mark : Mark)
+record IsPart (p : Params) (m : ℕ) (cell : ℕ → ℕ → LaneCell) (mark : Mark)
     (frame : List ℕ) : Type 0 where
-  pub worst : IsWorst p.l m cell mark
-  pub octets : (lane j : ℕ) → lane < p.l → j < m
+  worst : IsWorst p.l m cell mark
+  octets : (lane j : ℕ) → lane < p.l → j < m
       → slice_index frame (lane * p.f + j) ≡ (cell lane j).value
 
 -- ---- columns
@@ -49,7 +49,8 @@ marks-of-octets : (p : Params) (column : List LaneCell) (j : ℕ) → j < octets
     → map (λ c. c.mark) (octet_column p column j) ≡ map (λ c. c.mark) column
 marks-of-octets p [] j below = refl
 marks-of-octets p (c ∷ column) j below =
-    ap₂ (λ (m : Mark) (ms : List Mark). m ∷ ms) (ap (λ (x : LaneCell). x.mark) (octet-is p c j below))
+    ap₂ (λ (m : Mark) (ms : List Mark). m ∷ ms)
+    (ap (λ (x : LaneCell). x.mark) (octet-is p c j below))
     (marks-of-octets p column j below)
 
 -- an octet of each lane that was put is part of the frame
@@ -215,7 +216,8 @@ all-put old now given j m all had = record {
       let long : m ≡ length column = all ∙ ap length is ∙ length-map column (λ c. Some c) in
       had.worst column is
       ∙ ap (λ (k : ℕ). fold worse old.mark (map (λ c. c.mark) (take k column))) long
-      ∙ ap (λ (cs : List LaneCell). fold worse old.mark (map (λ c. c.mark) cs)) (take-length column);
+      ∙ ap (λ (cs : List LaneCell). fold worse old.mark (map (λ c. c.mark) cs))
+      (take-length column);
   put = λ column is lane in_lanes.
       let long : m ≡ length column = all ∙ ap length is ∙ length-map column (λ c. Some c) in
       had.put column is lane (omega arith);
@@ -224,7 +226,7 @@ all-put old now given j m all had = record {
 
 -- ---- how far a frame is
 
-pub next-within : (n f : ℕ) → 0 < f → n % f + 1 < f → ((n + 1) % f ≡ n % f + 1)
+next-within : (n f : ℕ) → 0 < f → n % f + 1 < f → ((n + 1) % f ≡ n % f + 1)
     × ((n + 1) / f ≡ n / f)
 next-within n f some lt =
     let e : n + 1 ≡ n / f * f + (n % f + 1) = omega arith in (
@@ -233,7 +235,7 @@ next-within n f some lt =
           ∙ div-mul-add (n / f) f (n % f + 1) lt,
     )
 
-pub next-whole : (n f : ℕ) → 0 < f → f ≤ n % f + 1 → ((n + 1) % f ≡ 0) × ((n + 1) / f ≡ n / f + 1)
+next-whole : (n f : ℕ) → 0 < f → f ≤ n % f + 1 → ((n + 1) % f ≡ 0) × ((n + 1) / f ≡ n / f + 1)
 next-whole n f some h =
     let lt = mod-lt n some in
     let e : n + 1 ≡ (n / f + 1) * f + 0 = omega arith in (
@@ -263,7 +265,7 @@ gathered-nothing now p same at mark = record {
 }
 
 -- a part of a frame is what was gathered
-pub gathered-part : (now : Gathering) (p : Params) (columns : Columns) (m q : ℕ) → now.params ≡ p
+gathered-part : (now : Gathering) (p : Params) (columns : Columns) (m q : ℕ) → now.params ≡ p
     → now.at ≡ m
     → m ≡ length columns % p.f → length columns / p.f ≡ q
     → IsPart p m (cell_at p columns q) now.mark now.octets → HasGathered now p columns
@@ -529,7 +531,8 @@ taken-more old mid now given j some had more =
           let up : n / f ≤ (n + j) / f = div-le n (n + j) f some (omega arith) in
           let number : (n + j) / f ≡ length cs / f = ap (λ (k : ℕ). k / f) (sym long) in
           wholes cs column (had.goes_on columns column first all) all
-          ∙ ap₂ (λ (fs : List Whole) (k : ℕ). fs ++ (if (k + 1) % f == 0 then g (k / f) ∷ [] else []))
+          ∙ ap₂ (λ (fs : List Whole) (k : ℕ).
+          fs ++ (if (k + 1) % f == 0 then g (k / f) ∷ [] else []))
           (had.frames columns column first all
           ∙ wholes-stay p cs (octets ∷ []) (n / f) ((n + j) / f - n / f) some (omega arith)) long
           ∙ sym (whole-parts-more g f n (n + j) some (omega arith))

@@ -1,5 +1,5 @@
 -- Lines of rows.
-use Rattle.std.proofs.Common.{◌≡◌, ℕ, ◌≤◌, ◌+◌, ◌*◌, List, [], ◌∷◌, ◌++◌, Option, Some, None, Result, Ok, Err, OnOk, ap, ap₂, ◌∙◌, sym, arith}
+use Rattle.std.proofs.Common.{◌≡◌, ℕ, ◌≤◌, List, [], ◌∷◌, ◌++◌, Option, Some, None, Result, Ok, Err, OnOk, ap₂, ◌∙◌, sym, arith}
 use Rattle.std.proofs.lemmas.List.{flat_map_more}
 use Rattle.link_params.specs.Links.{Link}
 use Rattle.scenario.specs.declared.scenario_type.Scenario.{Scenario}
@@ -9,7 +9,7 @@ use Rattle.link_model.specs.Report.{Printed, lines}
 use Rattle.link_run.specs.Printing.{HasPrinted, Printing}
 
 -- a row more is its line more
-pub lines_more : (s : Plan) (rows : List Printed) (x : Printed)
+lines_more : (s : Plan) (rows : List Printed) (x : Printed)
     → lines s (rows ++ x ∷ []) ≡ lines s rows ++ line_of s.link x.row x.words
 unfolding lines
 lines_more s rows x = sym (flat_map_more (λ y. line_of s.link y.row y.words) [] rows x)

@@ -1,5 +1,5 @@
 -- The rows of a tick, kind by kind, and what they add to the counts.
-use Rattle.std.proofs.Common.{◌≡◌, ℕ, zero, suc, ◌+◌, ◌-◌, ◌*◌, ◌%◌, ◌==◌, ◌<◌, ◌≤◌, Bool, true, false, if◌then◌else◌, List, [], ◌∷◌, ◌++◌, length, map, take, filter, get_or, slice_get, Option, Some, None, refl, sym, ap, ap₂, ◌∙◌, append_assoc, append-nil, length-append, arith, count_by}
+use Rattle.std.proofs.Common.{◌≡◌, ℕ, suc, ◌+◌, ◌-◌, ◌*◌, ◌≤◌, Bool, true, false, if◌then◌else◌, List, [], ◌∷◌, ◌++◌, length, map, take, filter, get_or, slice_get, Option, Some, None, refl, sym, ap, ap₂, ◌∙◌, append_assoc, append-nil, length-append, arith, count_by}
 use Rattle.std.proofs.lemmas.List.{length-map, map-append, map_push, take_more}
 use Rattle.std.proofs.lemmas.List.Elements.{filter-append}
 use Rattle.std.proofs.lemmas.List.Sums.{count_by-le-length, fold-append, length-filter}
@@ -22,7 +22,7 @@ use Rattle.link_model.specs.Edges.{off}
 use Rattle.link_model.specs.Kinds.{kind_of, moment_of}
 use Rattle.link_model.specs.Moments.{Delivered, History}
 use Rattle.link_model.specs.Report.{Printed, alarms_from, bare, bares, decision_rows, enter_rows, frame_row, is_bad, is_fixed, is_ok, marks, off_alarm, off_alarms, prints_all, prints_frames, rows_of_tick, totals}
-use Rattle.link_model.specs.Sends.{beginnings, begins_frame, frames_before}
+use Rattle.link_model.specs.Sends.{begins_frame, frames_before}
 use Rattle.link_run.specs.Gathered.{Whole, delivered_of, no_frame}
 use Rattle.link_run.specs.Printing.{counted_mark, one_if}
 use Rattle.link_run.specs.Reported.{IsSeen, rows_so_far}
@@ -50,7 +50,7 @@ alarm-rows-more alarms rows t i a is =
     ∙ sym (append_assoc rows (alarm_rows t (take i alarms)) (bare (row.Alarm t a) ∷ []))
 
 -- a row more, where these rows are printed
-pub shown-more : (shown : Bool) (rows old : List Printed) (x : Printed)
+shown-more : (shown : Bool) (rows old : List Printed) (x : Printed)
     → rows ++ (if shown then old ++ x ∷ [] else []) ≡ (rows ++ (if shown then old else []))
     ++ (if shown then x ∷ [] else [])
 shown-more true rows old x = sym (append_assoc rows old (x ∷ []))
@@ -80,7 +80,8 @@ firsts p place n =
     ∙ filter-append begins (numbers_from 0 n) (n ∷ [])
 
 pub entered-begins : (p : Params) (t place n : ℕ) → begins_frame p place n ≡ true
-    → entered_first p t place (n + 1) ≡ entered_first p t place n ++ (octets_per_tick p * t + n) ∷ []
+    → entered_first p t place (n + 1)
+    ≡ entered_first p t place n ++ (octets_per_tick p * t + n) ∷ []
 entered-begins p t place n is =
     let at : ℕ → ℕ = λ j. octets_per_tick p * t + j in
     let old : List ℕ = filter (begins_frame p place) (numbers_from 0 n) in
@@ -121,7 +122,8 @@ enter-rows-more : (os : List ℕ) (s : Plan) (n o : ℕ)
 unfolding enter_rows
 enter-rows-more [] s n o =
     let same : n ≡ n + 0 = omega arith in
-    ap (λ (k : ℕ). let x : Printed = record { row = row.Enter o; words = source_frame s k } in x ∷ [])
+    ap (λ (k : ℕ). let x : Printed =
+    record { row = row.Enter o; words = source_frame s k } in x ∷ [])
     same
 enter-rows-more (a ∷ os) s n o =
     let same : suc n + length os ≡ n + suc (length os) = omega arith in
@@ -160,9 +162,10 @@ leaving p end frames begun i = record {
 
 -- the rows of the first n of them
 abbrev pub leaving_rows : Params → ℕ → List Whole → ℕ → ℕ → List Printed
-leaving_rows p end frames begun n = map frame_row (map (leaving p end frames begun) (numbers_from 0 n))
+leaving_rows p end frames begun n =
+    map frame_row (map (leaving p end frames begun) (numbers_from 0 n))
 
-pub leaving-more : (p : Params) (end : ℕ) (frames : List Whole) (begun n : ℕ)
+leaving-more : (p : Params) (end : ℕ) (frames : List Whole) (begun n : ℕ)
     → leaving_rows p end frames begun (n + 1) ≡ leaving_rows p end frames begun n
     ++ frame_row (leaving p end frames begun n) ∷ []
 leaving-more p end frames begun n =
@@ -191,7 +194,8 @@ marks-counted n ms m =
     let fixed : n.fixed + count_by is_fixed (ms ++ m ∷ [])
     ≡ n.fixed + count_by is_fixed ms + one_if (is_fixed m) =
     (let more = count-more is_fixed ms m in omega arith) in
-    let bad : n.bad + count_by is_bad (ms ++ m ∷ []) ≡ n.bad + count_by is_bad ms + one_if (is_bad m) =
+    let bad : n.bad + count_by is_bad (ms ++ m ∷ [])
+    ≡ n.bad + count_by is_bad ms + one_if (is_bad m) =
     (let more = count-more is_bad ms m in omega arith) in
     rw (long, ok, fixed, bad) refl
 
@@ -223,7 +227,8 @@ pub leaving-shown : (shown : Bool) (rows : List Printed) (p : Params) (end : ℕ
     → time ≡ end + i * p.f - (begun + length frames * p.f) → frame ≡ get_or frames i no_frame
     → rows ++ (if shown then leaving_rows p end frames begun (i + 1) else [])
     ≡ (rows ++ (if shown then leaving_rows p end frames begun i else []))
-    ++ (if shown then (record { row = row.Frame time frame.mark; words = frame.words }) ∷ [] else [])
+    ++ (if shown then (record { row = row.Frame time frame.mark; words = frame.words }) ∷ []
+    else [])
 leaving-shown shown rows p end frames begun i time frame left is =
     let old : List Printed = leaving_rows p end frames begun i in
     ap (λ (xs : List Printed). rows ++ (if shown then xs else []))
@@ -302,7 +307,8 @@ seen_counts x alarms frames p t n =
     let begun : Totals = record offs {
       entered = offs.entered + length (entered_at p t x.place);
     } in
-    let left = with_marks (with_alarms begun (length alarms)) (map (λ (f : Whole). f.mark) frames) in
+    let marks = map (λ (f : Whole). f.mark) frames in
+    let left = with_marks (with_alarms begun (length alarms)) marks in
     record left { ticks = left.ticks + 1; fullest = x.fullest }
 
 marks-of : (p : Params) (end : ℕ) (frames : List Whole) (begun : ℕ)

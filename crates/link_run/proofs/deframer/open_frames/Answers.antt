@@ -1,4 +1,4 @@
-use Rattle.std.proofs.Common.{◌≡◌, ◌+◌, ◌*◌, ◌∷◌, ◌++◌, [], ◌∙◌, List, ap, sym, arith, length, length-append}
+use Rattle.std.proofs.Common.{◌≡◌, ◌*◌, ◌∷◌, ◌++◌, [], ◌∙◌, List, ap, sym, arith, length, length-append}
 use Rattle.std.specs.Prelude.{if◌then◌else◌}
 use Rattle.std.proofs.lemmas.List.Elements.{All-push}
 use Rattle.link_params.specs.declared.cells.Mark.TheVariants.{Ok as Good}
@@ -15,9 +15,11 @@ loop-preserved c =
     let count = c.loop.invariant.0 in
     let size : length c.in-Ok.words.items ≡ c.args.shape.now.m * c.args.shape.now.s =
     sym c.in-Ok.words.ok.0 ∙ c.in-Ok.ensures.len ∙ c.frame_words-count.ensures.value in
-    rw items
-    (omega arith, All-push (λ (f : Whole). length f.words ≡ c.args.shape.now.m * c.args.shape.now.s)
-    frames frame c.loop.invariant.1 size)
+    rw items (
+      omega arith,
+      All-push (λ (f : Whole). length f.words ≡ c.args.shape.now.m * c.args.shape.now.s)
+          frames frame c.loop.invariant.1 size,
+    )
 
 pub returns : goal.returns
 returns c =

@@ -1,7 +1,7 @@
-use Rattle.std.proofs.Common.{◌≡◌, ℕ, ◌+◌, ◌*◌, ◌%◌, ◌≤◌, ◌++◌, ◌∷◌, [], ◌∙◌, if◌then◌else◌, List, true, false, ap, ap₂, arith, length, length-append, refl, subst, sym}
+use Rattle.std.proofs.Common.{◌≡◌, ℕ, ◌+◌, ◌*◌, ◌%◌, ◌++◌, ◌∷◌, [], ◌∙◌, if◌then◌else◌, List, true, false, ap, ap₂, arith, length, length-append, refl, subst, sym}
 use Rattle.std.proofs.lemmas.Bool.{eq-eqb, ne_eqb}
 use Rattle.link_params.specs.Numbers.{octets_per_tick}
-use Rattle.link_model.specs.Report.{Printed, enter_rows, prints_all}
+use Rattle.link_model.specs.Report.{enter_rows, prints_all}
 use Rattle.link_model.specs.Sends.{begins_frame}
 use Rattle.scenario.specs.declared.report_row.Totals.{Totals}
 use Rattle.scenario.specs.Plans.{numbers_from}
@@ -15,8 +15,9 @@ pub returns-in_default-clause-printed : goal.returns-in_default-clause-printed
 unfolding enter_rows
 returns-in_default-clause-printed c = λ plan rows is printed.
     subst (HasPrinted c.args.report.now plan)
-    (sym (ap (λ o. rows ++ (if prints_all plan.print then enter_rows plan c.args.report.now.totals.entered
-    (entered_at plan.link.params c.args.t o) else [])) c.in_default.is
+    (sym (ap (λ o. rows ++ (if prints_all plan.print then enter_rows plan
+    c.args.report.now.totals.entered (entered_at plan.link.params c.args.t o) else []))
+    c.in_default.is
     ∙ shown-none (prints_all plan.print) rows)) printed
 
 pub loop-j-init : goal.loop-j-init
@@ -66,7 +67,8 @@ loop-j-preserved c =
           let sum : totals.entered + length old + 1
           ≡ totals.entered + length (entered_first p t place (j + 1)) = omega arith in
           rw w.report-is (
-            more.counts ∙ ap (λ (n : Totals). let k : Totals = record n { entered = n.entered + 1 } in k)
+            more.counts
+                ∙ ap (λ (n : Totals). let k : Totals = record n { entered = n.entered + 1 } in k)
                 had.0
                 ∙ ap (λ (k : ℕ). let n : Totals = record totals { entered = k } in n) sum,
             omega arith,

@@ -15,4 +15,5 @@ invariant-loop-j l =
     × (l.report.size ≡ l.fn.report.size)
     × ((plan : Plan) → (rows : List Printed) → plan_of l.s ≡ Some plan
     → HasPrinted l.fn.report plan rows
-    → HasPrinted l.report plan (rows ++ (if prints_all plan.print then enter_rows plan l.fn.report.totals.entered entered else [])))
+    → HasPrinted l.report plan (rows ++ (if prints_all plan.print then enter_rows plan
+    l.fn.report.totals.entered entered else [])))

@@ -1,4 +1,4 @@
-use Rattle.std.proofs.Common.{◌≡◌, ℕ, ◌+◌, ◌-◌, ◌*◌, ◌≤◌, ◌<◌, ◌++◌, ◌∷◌, [], ◌∙◌, if◌then◌else◌, List, ap, ap₂, arith, count_by, get_or, length, map, refl, subst, sym, take}
+use Rattle.std.proofs.Common.{◌≡◌, ℕ, ◌+◌, ◌-◌, ◌*◌, ◌≤◌, ◌++◌, ◌∷◌, [], ◌∙◌, if◌then◌else◌, List, ap, ap₂, arith, get_or, length, map, refl, subst, sym, take}
 use Rattle.std.proofs.Math.Seq.{take-length}
 use Rattle.std.proofs.lemmas.List.{get_or_read_under, length-map, length-take, map_more}
 use Rattle.std.proofs.lemmas.List.Sums.{count_by-le-length}
@@ -6,7 +6,7 @@ use Rattle.std.proofs.Math.Nat.{mul-le-mul}
 use Rattle.link_params.specs.declared.cells.Mark.{Mark}
 use Rattle.link_params.specs.declared.fields.Params.{Params}
 use Rattle.scenario.specs.declared.report_row.Totals.{Totals}
-use Rattle.link_model.specs.Report.{Printed, is_bad, is_fixed, is_ok, prints_frames}
+use Rattle.link_model.specs.Report.{is_bad, is_fixed, is_ok, prints_frames}
 use Rattle.scenario.specs.Plans.{numbers_from}
 use Rattle.link_run.specs.Gathered.{Whole, no_frame}
 use Rattle.link_run.specs.Printing.{HasPrinted, counted_mark}
@@ -58,7 +58,8 @@ frame-requires-clause-marks c =
 
 pub frame-requires-clause-room : goal.frame-requires-clause-room
 frame-requires-clause-room c =
-    let fits = c.requires.words c.loop-frame.frame-index c.frame-item.result c.loop-frame-test.true in
+    let fits = c.requires.words c.loop-frame.frame-index c.frame-item.result
+    c.loop-frame-test.true in
     let same = ap length (c.deref.ensures.value
     ∙ ap (λ (f : Whole). f.words) (c.frame.view_is ∙ c.frame-item.is)) in
     let longer = c.loop-frame.invariant.2 in
@@ -100,9 +101,10 @@ loop-frame-preserved c =
     let longer = more.room in
     let before = had.2 in
     let next = had.0 in
-    let left : c.saturating_sub.result ≡ c.args.end + i * p.f - (c.args.begun + length frames * p.f) =
+    let left : c.saturating_sub.result
+    ≡ c.args.end + i * p.f - (c.args.begun + length frames * p.f) =
     c.saturating_sub.ensures
-    ∙ ap₂ (λ (a f : ℕ). a - (c.args.begun + length frames * f)) next refl
+    ∙ ap (λ (a : ℕ). a - (c.args.begun + length frames * size)) next
     ∙ ap (λ (f : ℕ). c.args.end + i * f - (c.args.begun + length frames * f))
     c.frame_octets-size.ensures.value in (
       (let e : (i + 1) * size ≡ i * size + size = omega arith in omega arith),

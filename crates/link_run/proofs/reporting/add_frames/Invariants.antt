@@ -1,4 +1,4 @@
-use Rattle.std.proofs.Common.{◌≡◌, ◌≤◌, ◌+◌, ◌*◌, ◌++◌, [], if◌then◌else◌, List, length, map, take, Some}
+use Rattle.std.proofs.Common.{◌≡◌, ◌≤◌, ◌+◌, ◌*◌, ◌++◌, [], if◌then◌else◌, List, map, take, Some}
 use Rattle.scenario.specs.Plans.{Plan, plan_of}
 use Rattle.link_run.specs.Gathered.{Whole}
 use Rattle.link_run.specs.Printing.{HasPrinted}
@@ -16,4 +16,5 @@ invariant-loop-frame l =
     × (l.report.size ≡ l.fn.report.size)
     × ((plan : Plan) → (rows : List Printed) → plan_of l.s ≡ Some plan
     → HasPrinted l.fn.report plan rows
-    → HasPrinted l.report plan (rows ++ (if prints_frames plan.print then leaving_rows l.s.shape l.end l.frames l.begun l.frame-index else [])))
+    → HasPrinted l.report plan (rows ++ (if prints_frames plan.print then leaving_rows l.s.shape
+    l.end l.frames l.begun l.frame-index else [])))

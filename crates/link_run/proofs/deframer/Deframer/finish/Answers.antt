@@ -1,9 +1,8 @@
-use Rattle.std.proofs.Common.{◌≡◌, ℕ, ◌+◌, ◌*◌, List, None, [], ◌∷◌, ◌++◌, length, take, get_or, set, add-one, ap, ap₂, sym, subst, ◌∙◌, ◌<◌, ◌≤◌, min, arith}
+use Rattle.std.proofs.Common.{◌≡◌, ℕ, ◌+◌, ◌*◌, List, None, [], ◌∷◌, ◌++◌, length, take, get_or, set, add-one, ap, sym, subst, ◌∙◌, ◌<◌, arith}
 use Rattle.std.proofs.Math.Seq.{take-suc-set}
 use Rattle.std.proofs.lemmas.List.{length-set, length-take, with_items_is}
 use Rattle.std.proofs.lemmas.List.Elements.{All-set}
 use Rattle.link_params.specs.declared.fields.Params.{Params}
-use Rattle.link_params.specs.declared.cells.Mark.{Mark}
 use Rattle.link_params.specs.Laws.{broken_law}
 use Rattle.link_params.specs.Numbers.{octets_per_tick}
 use Rattle.sample_map.specs.Frames.{words_of}

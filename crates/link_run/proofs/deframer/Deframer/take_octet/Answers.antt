@@ -1,4 +1,4 @@
-use Rattle.std.proofs.Common.{◌≡◌, ◌+◌, ◌*◌, ◌<◌, ◌≤◌, None, length, ap, subst, arith}
+use Rattle.std.proofs.Common.{◌≡◌, ◌+◌, ◌*◌, ◌<◌, None, length, ap, subst, arith}
 use Rattle.link_params.specs.Laws.{broken_law}
 use Rattle.link_params.specs.Numbers.{octets_per_tick}
 use Rattle.link_run.specs.Gathered.{Gathering}
@@ -8,7 +8,8 @@ use Rattle.link_run.proofs.deframer.Deframer.take_octet.Goals as goal
 pub returns-then-at-params : goal.returns-then-at-params
 returns-then-at-params c =
     let mid = c.put.new.self in
-    let within = subst (λ (v : Gathering). v.at < v.params.f) c.self.view_is c.self.invariant.within in
+    let within = subst (λ (v : Gathering). v.at < v.params.f) c.self.view_is
+    c.self.invariant.within in
     let size = subst (λ (v : Gathering). length v.octets ≡ v.params.l * v.params.f) c.self.view_is
     c.self.invariant.size in
     let at = ap (λ (v : Gathering). v.at) c.self.view_is in
@@ -25,7 +26,8 @@ returns-then-at-params c =
 pub returns-else-at-params : goal.returns-else-at-params
 returns-else-at-params c =
     let mid = c.put.new.self in
-    let within = subst (λ (v : Gathering). v.at < v.params.f) c.self.view_is c.self.invariant.within in
+    let within = subst (λ (v : Gathering). v.at < v.params.f) c.self.view_is
+    c.self.invariant.within in
     let size = subst (λ (v : Gathering). length v.octets ≡ v.params.l * v.params.f) c.self.view_is
     c.self.invariant.size in
     let at = ap (λ (v : Gathering). v.at) c.self.view_is in

@@ -1,4 +1,4 @@
-use Rattle.std.proofs.Common.{◌≡◌, ◌≤◌, ◌++◌, ◌∷◌, [], ◌∙◌, if◌then◌else◌, List, OnOk, ap, arith, subst, sym}
+use Rattle.std.proofs.Common.{◌≡◌, ◌++◌, ◌∷◌, [], ◌∙◌, if◌then◌else◌, List, OnOk, ap, arith, subst, sym}
 use Rattle.std.proofs.lemmas.List.{with_items_is}
 use Rattle.scenario.specs.declared.report_row.Row.TheVariants as row
 use Rattle.scenario.specs.Plans.{source_frame}
