@@ -7,5 +7,7 @@
 #![tactic(auto)]
 
 mod lane_laws;
+mod run_laws;
 
 pub use lane_laws::lane_laws_of_lanes_c;
+pub use run_laws::laws_of_runs;
