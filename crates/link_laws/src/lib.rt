@@ -4,7 +4,7 @@
 //!
 //! ```text
 //! ghost use Rattle.link_laws.specs.LawsB.{RunLawsB};
-//! ensures laws { (plan : Plan) → plan_of scenario.now ≡ Some plan → RunLawsB plan }
+//! ensures laws { (plan : Plan) → IsPlanRead plan → plan.link.params.mode ≡ B → RunLawsB plan }
 //! ```
 #![tactic(auto)]
 
