@@ -1,5 +1,5 @@
 -- How many entries a lane's buffer holds in a tick of a run, before it gives one.
-use Rattle.std.proofs.Common.{◌≡◌, ℕ, ◌+◌, ◌-◌, ◌<◌, ◌≤◌, ◌⊎◌, List, [], ◌∷◌, ◌++◌, length, get_or, Option, Some, None, inl, inr, refl, ap, ◌∙◌, length-append, arith}
+use Rattle.std.proofs.Common.{◌≡◌, ℕ, ◌+◌, ◌-◌, ◌<◌, ◌≤◌, List, [], ◌∷◌, ◌++◌, length, get_or, inl, inr, ap, ◌∙◌, length-append, arith}
 use Rattle.std.proofs.lemmas.Bool.{cases_Bool, cond-true, cond-false}
 use Rattle.std.proofs.lemmas.List.{get_or-map}
 use Rattle.std.proofs.lemmas.Simd.{map-map}
@@ -10,6 +10,7 @@ use Rattle.link_params.specs.Lanes.{LaneKind, Taken, is_inside}
 use Rattle.link_params.specs.Laws.{is_b}
 use Rattle.link_params.specs.Numbers.{depth, width}
 use Rattle.lane_b.specs.Received.{lanes_b}
+use Rattle.lane_b.proofs.LaneEntries.{cases-found}
 use Rattle.lane_c.specs.Receivers.{IsArmedOn}
 use Rattle.scenario.specs.Plans.{Plan}
 use Rattle.link_model.specs.Moments.{History}
@@ -26,17 +27,13 @@ use Rattle.link_model.proofs.FactsB.{facts-b}
 use Rattle.link_model.proofs.KindFacts.{AreTicks, KindFacts, started_by}
 use Rattle.link_laws.specs.Laws.{Depth, IsPlanRead}
 
-cases-started : (o : Option ℕ) → ((f : ℕ) × (o ≡ Some f)) ⊎ (o ≡ None)
-cases-started (Some f) = inl (f, refl)
-cases-started None = inr refl
-
 -- a tick brings one entry at most
 entries-one-more : (kind : LaneKind) (p : Params) (t : Timing) → KindFacts kind p t → (lane : ℕ)
     (taken : List Taken) (w : Taken) → AreTicks (width p) taken → length w.word ≡ width p
     → IsArmedOn taken w.order
     → length (kind.entries p t lane (taken ++ w ∷ [])) ≤ length (kind.entries p t lane taken) + 1
 entries-one-more kind p t facts lane taken w ticks size on =
-    elim (cases-started (started_by kind p t lane taken)) [
+    elim (cases-found (started_by kind p t lane taken)) [
       | inr none ↦ elim (facts.unstarted lane taken w ticks size on none) [
         | inl u ↦ let empty = ap length u.entries in omega arith
         | inr s ↦ elim (cases_Bool (is_inside t w.order.offset)) [

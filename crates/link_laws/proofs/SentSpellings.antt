@@ -148,7 +148,10 @@ unfolding sent_by
 sends-spelling s h lane legal mode below =
     let p = s.link.params in
     let now : Handed =
-    record { order = (next lanes_b s h).order; octets = slice_index (next lanes_b s h).handed lane } in
+    record {
+      order = (next lanes_b s h).order;
+      octets = slice_index (next lanes_b s h).handed lane;
+    } in
     let before : List Handed = handed_since s h lane in
     rw (sent-lane lanes_b s h lane below)
     (last-spelled p lane before now

@@ -66,7 +66,8 @@ report-lane kind s h lane below =
     ∙ get_or-map f (lanes_of s) lane 0 no_report (omega arith)
     ∙ ap f (get_or-numbers s.link.params.l lane 0 0 below ∙ same)
 
-pub length-reports : (kind : LaneKind) (s : Plan) (h : History) → length (next kind s h).reports ≡ s.link.params.l
+pub length-reports : (kind : LaneKind) (s : Plan) (h : History)
+    → length (next kind s h).reports ≡ s.link.params.l
 length-reports kind s h =
     ap length (reports-next kind s h)
     ∙ length-map (lanes_of s) (λ l. kind.report s.link.params s.link.timing l (took kind s h l))
@@ -131,7 +132,8 @@ phase-goes : (s : Plan) (n x : ℕ) → 0 < period s.link.params → is_reset s 
 phase-goes s zero x pos e some = let bad : None ≡ Some x = some in absurd (cc)
 phase-goes s (suc n) x pos e some = phase-next s n x pos e some
 
-pub ready : (kind : LaneKind) (s : Plan) (h : History) (lane : ℕ) → KindFacts kind s.link.params s.link.timing
+pub ready : (kind : LaneKind) (s : Plan) (h : History) (lane : ℕ)
+    → KindFacts kind s.link.params s.link.timing
     → IsLegal s.link.params s.link.timing → HasDepth kind s h lane → IsReady kind s h lane
 ready kind s h lane facts l d = elim (cases_Bool (is_reset s Rx (length h))) [
   | inl e ↦
@@ -142,7 +144,8 @@ ready kind s h lane facts l d = elim (cases_Bool (is_reset s Rx (length h))) [
       let kept = standing-kept s h e in
       let same : begins_hunt s h ≡ ends_in_hunt h = ap (λ (b : Bool). b || ends_in_hunt h) e in
       elim (cases_Bool (ends_in_hunt h)) [
-        | inl ends ↦ ready-hunt kind s h lane (session-hunt kind s h (hunt-next kind s h ∙ same ∙ ends))
+        | inl ends ↦ ready-hunt kind s h lane
+            (session-hunt kind s h (hunt-next kind s h ∙ same ∙ ends))
             (ap (λ (x : Standing). x.stage) kept ∙ d.in_hunt ends) facts d.armed
         | inr goes ↦
             let on = session-goes-on kind s h (hunt-next kind s h ∙ same ∙ goes) in
@@ -164,11 +167,13 @@ ready kind s h lane facts l d = elim (cases_Bool (is_reset s Rx (length h))) [
 -- ---- a tick
 
 pub tick-outcome : (kind : LaneKind) (s : Plan) (h : History) (lane : ℕ)
-    → KindFacts kind s.link.params s.link.timing → IsLegal s.link.params s.link.timing → lane < s.link.params.l → HasDepth kind s h lane
+    → KindFacts kind s.link.params s.link.timing → IsLegal s.link.params s.link.timing
+    → lane < s.link.params.l → HasDepth kind s h lane
     → Outcome s.link.params s.link.timing (next kind s h).decided.decision (next kind s h).stage
     (phase s Rx (length h))
     (started_by kind s.link.params s.link.timing lane (took kind s h lane))
-    (length (kind.entries s.link.params s.link.timing lane (took kind s h lane))) (gives_in (session s h))
+    (length (kind.entries s.link.params s.link.timing lane (took kind s h lane)))
+    (gives_in (session s h))
 unfolding told_of
 tick-outcome kind s h lane facts l below kept =
     let p = s.link.params in
@@ -232,7 +237,8 @@ depth-none kind s lane facts =
     }
 
 pub depth-next : (kind : LaneKind) (s : Plan) (h : History) (lane : ℕ)
-    → KindFacts kind s.link.params s.link.timing → IsLegal s.link.params s.link.timing → lane < s.link.params.l → HasHunt h
+    → KindFacts kind s.link.params s.link.timing → IsLegal s.link.params s.link.timing
+    → lane < s.link.params.l → HasHunt h
     → HasDepth kind s h lane → HasDepth kind s (with_next kind s h) lane
 depth-next kind s h lane facts l below begun kept =
     let o = tick-outcome kind s h lane facts l below kept in
@@ -295,7 +301,8 @@ pub gave-within : (kind : LaneKind) (t : ℕ) (s : Plan) (lane : ℕ)
     → broken_timing s.link.params s.link.timing ≡ None
     → lane < s.link.params.l
     → gives_in (current (run kind s t)) ≤ length (entries_now kind s (run kind s t) lane)
-gave-within kind t s lane facts laws timing below = (depth-run kind t s lane facts laws timing below).within
+gave-within kind t s lane facts laws timing below =
+    (depth-run kind t s lane facts laws timing below).within
 
 -- no buffer ever holds more than it has room for
 pub depth-holds : (kind : LaneKind) (t : ℕ) (s : Plan) (lane : ℕ)
@@ -304,7 +311,8 @@ pub depth-holds : (kind : LaneKind) (t : ℕ) (s : Plan) (lane : ℕ)
     → lane < s.link.params.l
     → length (entries_now kind s (run kind s t) lane) - gives_in (current (run kind s t))
     ≤ depth s.link.params s.link.timing
-depth-holds kind t s lane facts laws timing below = (depth-run kind t s lane facts laws timing below).fits
+depth-holds kind t s lane facts laws timing below =
+    (depth-run kind t s lane facts laws timing below).fits
 
 -- in a tick in which the lanes run each lane has an entry to give
 pub has-entry : (kind : LaneKind) (t : ℕ) (s : Plan) (lane : ℕ)

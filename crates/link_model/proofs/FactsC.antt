@@ -1,5 +1,5 @@
 -- 64b/66b lanes meet the facts of a kind of lane.
-use Rattle.std.proofs.Common.{◌≡◌, ◌⊎◌, ℕ, suc, ◌+◌, ◌-◌, ◌*◌, ◌/◌, ◌≤◌, Bool, true, false, if◌then◌else◌, List, [], ◌∷◌, ◌++◌, map, length, take, drop, Option, Some, None, option_map, inl, inr, refl, sym, ap, ap₂, ◌∙◌, arith}
+use Rattle.std.proofs.Common.{◌≡◌, ◌⊎◌, ℕ, suc, ◌+◌, ◌-◌, ◌*◌, ◌/◌, ◌<◌, ◌≤◌, Bool, true, false, if◌then◌else◌, List, [], ◌∷◌, ◌++◌, map, length, take, drop, Option, Some, None, option_map, inl, inr, refl, sym, ap, ap₂, ◌∙◌, arith}
 use Rattle.std.proofs.lemmas.Bool.{cases_Bool, cond-true, cond-false}
 use Rattle.std.proofs.lemmas.List.{length_push, map_push}
 use Rattle.link_params.specs.declared.fields.Params.{Params}
@@ -10,6 +10,7 @@ use Rattle.link_params.specs.Lanes.{Entry, Held, Taken, is_inside}
 use Rattle.link_params.specs.Laws.{is_b}
 use Rattle.link_params.specs.Numbers.{width}
 use Rattle.multiblock.specs.Places.{Place, pattern_size}
+use Rattle.lane_b.proofs.LaneEntries.{cases-found}
 use Rattle.lane_c.specs.Locking.{arrives, bits_taken, dropped_at, leaves, offset_of, order_at, place, place_from, start}
 use Rattle.lane_c.specs.Received.{cells, cells_left, entries_c, entries_from, entries_of, lanes_c, report_c, report_of}
 use Rattle.lane_c.specs.Receivers.{AreBlocks}
@@ -17,10 +18,11 @@ use Rattle.lane_c.specs.Statuses.{Judged, known_blocks}
 use Rattle.lane_c.proofs.CellsLeft.{known-many, left-more}
 use Rattle.lane_c.proofs.Dropping.{last-order}
 use Rattle.lane_c.proofs.KnownGrows.{known-grows}
+use Rattle.lane_c.proofs.Losing.{Longer}
 use Rattle.lane_c.proofs.Searching.{bits_taken-more, length-bits_taken, order_at-append}
 use Rattle.lane_c.proofs.Starting.{start-leaves, start-locked, start-stays}
 use Rattle.link_model.proofs.KindFacts.{AreEntries, AreTicks, AreWords, IsUnstarted, KindFacts, StartedMore, StartsNow, started_by}
-use Rattle.link_model.proofs.PlacesC.{IsIdle, Stands, armed-start, blocks-now, cases-number, cases-place, dropped-next, kept-armed, nowhere-next, place-nowhere, place-stands, search-stands, stands-next, starts-late}
+use Rattle.link_model.proofs.PlacesC.{IsIdle, Stands, armed-start, blocks-now, cases-place, dropped-next, kept-armed, nowhere-next, place-nowhere, place-stands, search-stands, stands-next, starts-late}
 
 -- ---- reports and entries
 
@@ -63,6 +65,16 @@ begun-of p t lane taken x n is some = record {
 
 -- ---- a cell more
 
+left-longer : (n m : ℕ) (known later : List Judged) → Longer known later → 1 ≤ n
+    → n + m < length known
+    → (c : LaneCell)
+    × (take (suc m) (cells (drop (n - 1) later)) ≡ take m (cells (drop (n - 1) known)) ++ c ∷ [])
+left-longer n m known later grows some less = (
+  _,
+  ap (λ r. take (suc m) (cells (drop (n - 1) r))) grows.is
+      ∙ left-more known grows.rest n m some less,
+)
+
 -- a tick more gives a cell more where a block of the lane leaves in it
 left-grows : (p : Params) (taken : List Taken) (w : Taken) (x : Place) (n : ℕ) → AreBlocks taken
     → length w.word ≡ 66 → leaves x n ≤ length taken
@@ -75,16 +87,15 @@ left-grows p taken w x n words size left locked =
     let count : ℕ = (length bs - x.first) / 66 in
     let rest : ℕ = length bs - x.first - 66 * count in
     let m : ℕ = length taken - leaves x n in
-    let known : List Judged = known_blocks p.mode x bs in
     let on : length (taken ++ w ∷ []) - leaves x n ≡ suc m = omega arith in
-    let grows = known-grows p.mode x bs w.word count rest (omega arith) (omega arith) size
-    (omega arith) in
     let many = known-many p.mode x bs count refl (omega arith) in
-    let more = left-more known grows.rest n m (omega arith) (omega arith) in (
-      _,
-      ap₂ (λ c b. take c (cells (drop (n - 1) (known_blocks p.mode x b)))) on
+    let c = left-longer n m (known_blocks p.mode x bs) (known_blocks p.mode x (bs ++ w.word))
+    (known-grows p.mode x bs w.word count rest (omega arith) (omega arith) size (omega arith))
+    (omega arith) (omega arith) in (
+      c.0,
+      ap₂ (λ k b. take k (cells (drop (n - 1) (known_blocks p.mode x b)))) on
           (bits_taken-more taken w)
-          ∙ ap (λ r. take (suc m) (cells (drop (n - 1) r))) grows.is ∙ more,
+          ∙ c.1,
     )
 
 -- no cell is left before the block of the start leaves
@@ -170,10 +181,10 @@ module _ (p : Params) (t : Timing) (lane : ℕ) (taken : List Taken) (w : Taken)
         }
 
     next-held : IsUnstarted lanes_c p t lane (taken ++ w ∷ []) ⊎ StartsNow lanes_c p t lane taken w
-    next-held = elim (cases-number (dropped_at p.e (taken ++ w ∷ []) h.at)) [
+    next-held = elim (cases-found (dropped_at p.e (taken ++ w ∷ []) h.at)) [
       | inl y ↦ inl (idle-unstarted p t lane (taken ++ w ∷ [])
           (inl (dropped-next p.e taken w words size h y.0 y.1)))
-      | inr stays ↦ elim (cases-number (start p.e (taken ++ w ∷ []) h.at)) [
+      | inr stays ↦ elim (cases-found (start p.e (taken ++ w ∷ []) h.at)) [
         | inl n ↦ inr (starts-with n.0 stays n.1)
         | inr still ↦
             let g = stands-next p.e taken w words size h stays in
@@ -192,7 +203,7 @@ module _ (p : Params) (t : Timing) (lane : ℕ) (taken : List Taken) (w : Taken)
   next-unstarted none = elim (search-stands p.e taken words) [
     | inl u ↦ inl (idle-unstarted p t lane (taken ++ w ∷ [])
         (nowhere-next p.e taken w words size u))
-    | inr h ↦ elim (cases-number (start p.e taken h.at)) [
+    | inr h ↦ elim (cases-found (start p.e taken h.at)) [
       | inl n ↦
           let b = begun-of p t lane taken h.at n.0 (place-stands p.e taken words h) n.1 in
           let some = b.started in
@@ -208,7 +219,7 @@ module _ (p : Params) (t : Timing) (lane : ℕ) (taken : List Taken) (w : Taken)
         let idle = idle-unstarted p t lane taken (inl (place-nowhere p.e taken words u)) in
         let none = idle.started in
         absurd (cc)
-    | inr h ↦ elim (cases-number (start p.e taken h.at)) [
+    | inr h ↦ elim (cases-found (start p.e taken h.at)) [
       | inl n ↦
           let b = begun-of p t lane taken h.at n.0 (place-stands p.e taken words h) n.1 in
           let is = b.started in
@@ -228,7 +239,7 @@ no-entries : (p : Params) (t : Timing) (lane : ℕ) (taken : List Taken) → Are
     → started_by lanes_c p t lane taken ≡ None → entries_c p t lane taken ≡ []
 no-entries p t lane taken words none = elim (cases-place (place p.e taken)) [
   | inr unplaced ↦ entries-of p t lane taken None unplaced
-  | inl x ↦ elim (cases-number (start p.e taken x.0)) [
+  | inl x ↦ elim (cases-found (start p.e taken x.0)) [
     | inr still ↦ (idle-unstarted p t lane taken (inr (x.0, x.1, still))).entries
     | inl n ↦
         let b = begun-of p t lane taken x.0 n.0 x.1 n.1 in
@@ -250,7 +261,7 @@ entries-are : (p : Params) (t : Timing) (lane : ℕ) (taken : List Taken) → is
     → AreEntries p (entries_c p t lane taken)
 entries-are p t lane taken mode = elim (cases-place (place p.e taken)) [
   | inr none ↦ rw (entries-of p t lane taken None none) (are-held p [] mode)
-  | inl x ↦ elim (cases-number (start p.e taken x.0)) [
+  | inl x ↦ elim (cases-found (start p.e taken x.0)) [
     | inr still ↦ rw (entries-of p t lane taken (Some x.0) x.1
         ∙ ap (entries_from p t taken x.0) still) (are-held p [] mode)
     | inl n ↦

@@ -1,6 +1,6 @@
 -- What a kind of lane owes to the runs of a link: when a lane starts, with which offset, and which
 -- entries come into its buffer, tick by tick.
-use Rattle.std.proofs.Common.{◌≡◌, ◌⊎◌, ℕ, ◌-◌, ◌*◌, ◌≤◌, true, false, if◌then◌else◌, List, [], ◌∷◌, ◌++◌, map, replicate, length, Option, Some, None, inl, inr, refl, sym, ap, ◌∙◌, arith}
+use Rattle.std.proofs.Common.{◌≡◌, ◌⊎◌, ℕ, ◌-◌, ◌*◌, ◌≤◌, true, false, if◌then◌else◌, List, [], ◌∷◌, ◌++◌, map, replicate, length, Option, Some, None, inl, inr, sym, ap, ◌∙◌, arith}
 use Rattle.std.proofs.Math.ListN.{get_or-append}
 use Rattle.std.proofs.Math.Seq.{get_or-append_seam}
 use Rattle.std.proofs.lemmas.Bool.{cases_Bool, cases_lt, true≢false}
@@ -12,6 +12,7 @@ use Rattle.link_params.specs.declared.cells.LaneCell.{LaneCell}
 use Rattle.link_params.specs.Lanes.{Entry, Placed, Held, LaneKind, Taken, is_inside}
 use Rattle.link_params.specs.Laws.{is_b}
 use Rattle.link_params.specs.Numbers.{period, width}
+use Rattle.lane_b.proofs.LaneEntries.{cases-found}
 use Rattle.lane_c.specs.Locking.{no_order, order_at}
 use Rattle.lane_c.specs.Receivers.{IsArmedOn}
 
@@ -141,10 +142,6 @@ pub record KindFacts (k : LaneKind) (p : Params) (t : Timing) : Type 0 where
       → started_by k p t lane taken ≡ Some f → StartedMore k p t lane taken w f
   pub are : (lane : ℕ) (taken : List Taken) → AreEntries p (k.entries p t lane taken)
 
-cases-start : (o : Option ℕ) → ((f : ℕ) × (o ≡ Some f)) ⊎ (o ≡ None)
-cases-start (Some f) = inl (f, refl)
-cases-start None = inr refl
-
 -- entries stay
 pub entries-grow : (k : LaneKind) (p : Params) (t : Timing) → KindFacts k p t → (lane : ℕ)
     (taken : List Taken) (w : Taken) → AreTicks (width p) taken → length w.word ≡ width p
@@ -152,7 +149,7 @@ pub entries-grow : (k : LaneKind) (p : Params) (t : Timing) → KindFacts k p t 
     × (k.entries p t lane (taken ++ w ∷ []) ≡ k.entries p t lane taken ++ new)
 entries-grow k p t facts lane taken w ticks size on =
     let later : List Entry = k.entries p t lane (taken ++ w ∷ []) in
-    elim (cases-start (started_by k p t lane taken)) [
+    elim (cases-found (started_by k p t lane taken)) [
       | inr none ↦ (
         later,
         ap (λ (es : List Entry). es ++ later) (sym (facts.empty lane taken ticks none)),

@@ -12,6 +12,7 @@ use Rattle.bring_up.specs.declared.stage.Stage.TheVariants as stage
 use Rattle.bring_up.specs.declared.stage.Decision.{Decision}
 use Rattle.bring_up.specs.declared.stage.Decision.TheVariants as decision
 use Rattle.bring_up.specs.Decisions.{Standing, after_decision, decide, is_hunting, is_running}
+use Rattle.lane_b.proofs.LaneEntries.{cases-found}
 use Rattle.lane_c.specs.Receivers.{IsArmedOn}
 use Rattle.link_model.proofs.DecisionCases.{hunt-cases, no_report, run-cases, wait-cases}
 use Rattle.link_model.proofs.KindFacts.{AreTicks, KindFacts, StartsNow, started_by}
@@ -79,10 +80,6 @@ pub record Outcome (p : Params) (t : Timing) (d : Decision) (after : Stage)
   pub fits : n - (g + (if is_running after then 1 else 0)) ≤ depth p t
   pub gives : is_running after ≡ true → g < n
 
-cases-start : (o : Option ℕ) → ((f : ℕ) × (o ≡ Some f)) ⊎ (o ≡ None)
-cases-start (Some f) = inl (f, refl)
-cases-start None = inr refl
-
 cases-stage : (k : Stage) → (k ≡ stage.Hunt) ⊎ ((k ≡ stage.Wait) ⊎ (k ≡ stage.Run))
 cases-stage stage.Hunt = inl refl
 cases-stage stage.Wait = inr (inl refl)
@@ -100,7 +97,7 @@ module _ (p : Params) (t : Timing) (legal : IsLegal p t) where
       let empty = h.empty in
       omega arith
   room-in stage.Wait phase started n g h =
-      elim (cases-start started) [
+      elim (cases-found started) [
         | inr none ↦ let empty = h.unstarted none in omega arith
         | inl k ↦ elim (cases_Bool (is_inside t k.0)) [
           | inl i ↦
@@ -179,7 +176,8 @@ module _ (p : Params) (t : Timing) (legal : IsLegal p t) where
       })
 
   -- a tick more in a lane
-  module _ (kind : LaneKind) (facts : KindFacts kind p t) (lane : ℕ) (taken : List Taken) (w : Taken)
+  module _ (kind : LaneKind) (facts : KindFacts kind p t) (lane : ℕ) (taken : List Taken)
+      (w : Taken)
       (ticks : AreTicks (width p) taken) (size : length w.word ≡ width p)
       (armed_on : IsArmedOn taken w.order) where
     pub started : Option ℕ
@@ -283,7 +281,7 @@ module _ (p : Params) (t : Timing) (legal : IsLegal p t) where
         let some = legal.some in
         let below : (x + 1) % period p < period p =
         mod-lt (x + 1) (let pos : 0 < period p = omega arith in pos) in
-        elim (cases-start started) [
+        elim (cases-found started) [
           | inl k ↦ arriving-started phase x g k.0 before phase_is k.1
           | inr none ↦ elim (facts.unstarted lane taken w ticks size armed_on none) [
             | inl u ↦ arriving-none ((x + 1) % period p) u.started (ap length u.entries)
@@ -293,7 +291,7 @@ module _ (p : Params) (t : Timing) (legal : IsLegal p t) where
 
     -- the entries fit
     arriving-fits : (x : ℕ) → Arriving x → m ≤ depth p t
-    arriving-fits x a = elim (cases-start later) [
+    arriving-fits x a = elim (cases-found later) [
       | inr none ↦ let empty = a.unstarted none in omega arith
       | inl k ↦ elim (cases_Bool (is_inside t k.0)) [
         | inl i ↦

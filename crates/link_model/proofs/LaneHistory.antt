@@ -92,14 +92,17 @@ pub hunt-next : (k : LaneKind) (s : Plan) (h : History) → (next k s h).told.hu
 unfolding told_of
 hunt-next k s h = ap (λ (o : RxOrder). o.hunt) (told-next k s h)
 
-pub session-hunt : (k : LaneKind) (s : Plan) (h : History) → (next k s h).told.hunt ≡ true → session s h ≡ []
+pub session-hunt : (k : LaneKind) (s : Plan) (h : History) → (next k s h).told.hunt ≡ true
+    → session s h ≡ []
 unfolding session
-session-hunt k s h e = let begins : begins_hunt s h ≡ true = sym (hunt-next k s h) ∙ e in rw begins refl
+session-hunt k s h e =
+    let begins : begins_hunt s h ≡ true = sym (hunt-next k s h) ∙ e in rw begins refl
 
 pub session-goes-on : (k : LaneKind) (s : Plan) (h : History) → (next k s h).told.hunt ≡ false
     → session s h ≡ current h
 unfolding session
-session-goes-on k s h e = let goes : begins_hunt s h ≡ false = sym (hunt-next k s h) ∙ e in rw goes refl
+session-goes-on k s h e =
+    let goes : begins_hunt s h ≡ false = sym (hunt-next k s h) ∙ e in rw goes refl
 
 first-hunts : (k : LaneKind) (s : Plan) → (next k s []).told.hunt ≡ true
 unfolding ends_in_hunt
@@ -127,7 +130,8 @@ has-hunt-run k (suc t) s = has-hunt-next k s (run k s t) (has-hunt-run k t s)
 pub current-hunt : (h : History) (m : Moment) → m.told.hunt ≡ true → current (h ++ m ∷ []) ≡ m ∷ []
 current-hunt h m e = ap (λ (o : Option History). unwrap_or o []) (from-hunt-here h m e)
 
-pub current-goes-on : (k : LaneKind) (s : Plan) (h : History) → HasHunt h → (next k s h).told.hunt ≡ false
+pub current-goes-on : (k : LaneKind) (s : Plan) (h : History) → HasHunt h
+    → (next k s h).told.hunt ≡ false
     → current (with_next k s h) ≡ current h ++ next k s h ∷ []
 current-goes-on k s h begun e =
     let l = begun.found (some-ticks k s h e) in
@@ -145,7 +149,8 @@ current-next k s h begun = elim (cases_Bool (next k s h).told.hunt) [
 ]
 
 -- the session with the tick
-pub current-session : (k : LaneKind) (s : Plan) (h : History) → HasHunt h → current (with_next k s h) ≡ session s h
+pub current-session : (k : LaneKind) (s : Plan) (h : History) → HasHunt h
+    → current (with_next k s h) ≡ session s h
     ++ next k s h ∷ []
 current-session k s h begun = elim (cases_Bool (next k s h).told.hunt) [
   | inl e ↦ current-hunt h (next k s h) e ∙ ap (λ (l : History). l ++ next k s h ∷ [])
@@ -189,7 +194,8 @@ bits-lane k s h lane below = sent-lane k s h lane below
 
 -- the bits that it receives
 pub word-lane : (k : LaneKind) (s : Plan) (h : History) (lane : ℕ) → lane < s.link.params.l
-    → get_or (next k s h).taken lane [] ≡ word_with k s lane (lane_ready s h lane) (next k s h).order
+    → get_or (next k s h).taken lane []
+    ≡ word_with k s lane (lane_ready s h lane) (next k s h).order
     (slice_index (next k s h).handed lane)
 unfolding received
 word-lane k s h lane below =
@@ -281,7 +287,8 @@ takes k s h lane =
     }
 
 takes-step : (k : LaneKind) (s : Plan) (h : History) (lane : ℕ) → HasHunt h → lane < s.link.params.l
-    → taken_in (current (with_next k s h)) lane ≡ taken_in (session s h) lane ++ takes k s h lane ∷ []
+    → taken_in (current (with_next k s h)) lane
+    ≡ taken_in (session s h) lane ++ takes k s h lane ∷ []
 takes-step k s h lane begun below =
     ap (λ (l : History). taken_in l lane) (current-session k s h begun)
     ∙ taken-in-more (session s h) (next k s h) lane
@@ -302,7 +309,8 @@ taken-step k s h lane begun below = elim (cases_Bool (next k s h).told.hunt) [
       ∙ ap (λ (l : History). taken_in l lane ++ takes k s h lane ∷ []) (session-goes-on k s h e))
 ]
 
-gave-step : (k : LaneKind) (s : Plan) (h : History) → (if (next k s h).told.hunt then 0 else gives_in (current h))
+gave-step : (k : LaneKind) (s : Plan) (h : History)
+    → (if (next k s h).told.hunt then 0 else gives_in (current h))
     ≡ gives_in (session s h)
 gave-step k s h = elim (cases_Bool (next k s h).told.hunt) [
   | inl e ↦ cond-true (next k s h).told.hunt 0 (gives_in (current h)) e
@@ -312,14 +320,18 @@ gave-step k s h = elim (cases_Bool (next k s h).told.hunt) [
 ]
 
 -- with the tick sent and taken
-pub lane-stepped : (k : LaneKind) (s : Plan) (h : History) (lane : ℕ) → HasHunt h → lane < s.link.params.l
-    → stepped k s lane (lane_ready s h lane) (next k s h).order (slice_index (next k s h).handed lane)
+pub lane-stepped : (k : LaneKind) (s : Plan) (h : History) (lane : ℕ) → HasHunt h
+    → lane < s.link.params.l
+    → stepped k s lane (lane_ready s h lane) (next k s h).order
+    (slice_index (next k s h).handed lane)
     (next k s h).told ≡ lane_stepped k s h lane
 lane-stepped k s h lane begun below =
     same-runs
-    (stepped k s lane (lane_ready s h lane) (next k s h).order (slice_index (next k s h).handed lane)
+    (stepped k s lane (lane_ready s h lane) (next k s h).order
+    (slice_index (next k s h).handed lane)
     (next k s h).told) (lane_stepped k s h lane)
-    (handed-step k s h lane) (sent-step k s h lane below) refl refl (taken-step k s h lane begun below)
+    (handed-step k s h lane) (sent-step k s h lane below) refl refl
+    (taken-step k s h lane begun below)
     (gave-step k s h)
 
 pub gave-next : (k : LaneKind) (s : Plan) (h : History) → HasHunt h

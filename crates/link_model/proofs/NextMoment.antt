@@ -59,7 +59,8 @@ told-next k s h = refl
 
 pub taken-next : (k : LaneKind) (s : Plan) (h : History)
     → (next k s h).taken
-    ≡ map (λ l. received s l (length h) (sent_bits h l ++ get_or (next k s h).sent l [])) (lanes_of s)
+    ≡ map (λ l. received s l (length h) (sent_bits h l ++ get_or (next k s h).sent l []))
+    (lanes_of s)
 unfolding moment
 taken-next k s h = refl
 

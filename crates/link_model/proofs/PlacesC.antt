@@ -6,6 +6,7 @@ use Rattle.jesd_base.proofs.BitLemmas.{finds_least, finds_none as never_passes}
 use Rattle.link_params.specs.Lanes.{Taken}
 use Rattle.multiblock.specs.Places.{Place, least_place, pattern}
 use Rattle.multiblock.proofs.PlaceLemmas.{finds_least_place, finds_none, pattern_stays, place_stays}
+use Rattle.lane_b.proofs.LaneEntries.{cases-found}
 use Rattle.lane_c.specs.Locking.{bits_taken, dropped_at, is_first, is_locked, leaves, order_at, place, place_from, start, starts, was_armed_before}
 use Rattle.lane_c.specs.Loss.{first_loss, headers_after, pattern_end}
 use Rattle.lane_c.specs.Receivers.{AreBlocks, Searches}
@@ -36,10 +37,6 @@ pub record Stands (e : ℕ) (taken : List Taken) : Type 0 where
 pub cases-place : (o : Option Place) → ((x : Place) × (o ≡ Some x)) ⊎ (o ≡ None)
 cases-place (Some x) = inl (x, refl)
 cases-place None = inr refl
-
-pub cases-number : (o : Option ℕ) → ((x : ℕ) × (o ≡ Some x)) ⊎ (o ≡ None)
-cases-number (Some x) = inl (x, refl)
-cases-number None = inr refl
 
 none-some : (n : ℕ) → None ≡ Some n → ⊥
 none-some n h = cc
@@ -103,7 +100,7 @@ loss-inside e taken x k whole lost =
 loses-of : (e : ℕ) (taken : List Taken) (x : Place) (y : ℕ)
     → pattern_end e x ≤ length (bits_taken taken) → dropped_at e taken x ≡ Some y
     → Loses e taken x y
-loses-of e taken x y whole dropped = elim (cases-number (first_loss e (bits_taken taken) x)) [
+loses-of e taken x y whole dropped = elim (cases-found (first_loss e (bits_taken taken) x)) [
   | inr none ↦ absurd (none-some y (sym (no-drop e taken x none) ∙ dropped))
   | inl k ↦ elim (cases_Bool (was_armed_before taken (pattern_end e x + 66 * k.0))) [
     | inl armed ↦ absurd (none-some y (sym (dropped-not e taken x k.0 k.1 armed) ∙ dropped))
@@ -169,7 +166,7 @@ search-from zero e taken x words s near = let within = s.inside in absurd (omega
 search-from (suc n) e taken x words s near =
     elim (cases-place (least_place e x (bits_taken taken))) [
       | inr none ↦ inl (record { from = x; searches = s; none = none })
-      | inl p ↦ elim (cases-number (dropped_at e taken p.0)) [
+      | inl p ↦ elim (cases-found (dropped_at e taken p.0)) [
         | inr stays ↦
             inr (record { from = x; searches = s; at = p.0; least = p.1; stays = stays })
         | inl y ↦
@@ -306,9 +303,9 @@ module _ (e : ℕ) (taken : List Taken) (w : Taken) (words : AreBlocks taken)
 
     -- where the tick is armed the place stays
     pub kept-armed : w.order.armed ≡ true → dropped_at e (taken ++ w ∷ []) h.at ≡ None
-    kept-armed armed = elim (cases-number (first_loss e (bits_taken taken) h.at)) [
+    kept-armed armed = elim (cases-found (first_loss e (bits_taken taken) h.at)) [
       | inl k ↦ kept-again k.0 k.1
-      | inr none ↦ elim (cases-number (first_loss e (bits_taken (taken ++ w ∷ [])) h.at)) [
+      | inr none ↦ elim (cases-found (first_loss e (bits_taken (taken ++ w ∷ [])) h.at)) [
         | inr still ↦ no-drop e (taken ++ w ∷ []) h.at still
         | inl k ↦
             let late = lost-late k.0 none k.1 in
@@ -345,7 +342,7 @@ module _ (e : ℕ) (taken : List Taken) (w : Taken) (words : AreBlocks taken)
         let l = loses-of e (taken ++ w ∷ []) h.at y (omega arith) dropped in
         let at = l.is in
         let late : length (bits_taken taken) < y =
-        elim (cases-number (first_loss e (bits_taken taken) h.at)) [
+        elim (cases-found (first_loss e (bits_taken taken) h.at)) [
           | inl k ↦ absurd (none-some y (sym (kept-again k.0 k.1) ∙ dropped))
           | inr none ↦ let behind = lost-late l.blocks none l.lost in omega arith
         ] in

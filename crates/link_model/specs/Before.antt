@@ -113,7 +113,8 @@ octets_now k s h lane =
 -- and those of all lanes, octet by octet
 unfoldable pub columns_now : LaneKind → Plan → History → Columns
 columns_now k s h =
-    map (λ i. map (λ lane. get_or (octets_now k s h lane) i no_cell) (numbers_from 0 s.link.params.l))
+    map (λ i. map (λ lane. get_or (octets_now k s h lane) i no_cell)
+    (numbers_from 0 s.link.params.l))
     (numbers_from 0 (length (octets_now k s h 0)))
 
 -- the octet columns of a tick in which each lane gives one of these cells

@@ -3,9 +3,8 @@
 //! crate `link_run` runs links, and `link_laws` says what holds of every run.
 //!
 //! ```text
-//! ghost use Rattle.link_model.specs.Run.{run};
-//! ghost use Rattle.link_model.specs.Report.{report};
-//! ensures text { IfOk result (λ r. r.text.items ≡ report lanes_b plan) }
+//! ghost use Rattle.link_model.specs.Kinds.{report_of};
+//! ensures text { IfOk result (λ r. r.text.items ≡ report_of plan) }
 //! ```
 #![tactic(auto)]
 
