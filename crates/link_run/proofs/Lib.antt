@@ -19,6 +19,5 @@ pub mod Rooms
 pub mod EventLemmas
 pub mod TickRows
 pub mod LaneStates
-pub mod Rooms
 pub mod GiveFacts
 pub mod TickFacts

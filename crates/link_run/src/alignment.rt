@@ -72,7 +72,10 @@ impl Alignment {
     {
         match self {
             Alignment::Idle => (Alignment::Idle, TxOrder::Comma),
-            Alignment::Synchronizing if phase == Some(0) => (Alignment::Aligning(0), TxOrder::Ilas(0)),
+            Alignment::Synchronizing if phase == Some(0) => (
+                Alignment::Aligning(0),
+                TxOrder::Ilas(0),
+            ),
             Alignment::Synchronizing => (Alignment::Synchronizing, TxOrder::Comma),
             Alignment::Aligning(x) if x < 4 * period - 1 => {
                 (Alignment::Aligning(x + 1), TxOrder::Ilas(x + 1))

@@ -42,7 +42,7 @@ pub struct LinkState {
 
 impl Model for LinkState {
     ghost use Rattle.std.specs.Prelude.{◌≡◌};
-        ghost use Rattle.link_run.specs.LinkStates.{LinkView};
+    ghost use Rattle.link_run.specs.LinkStates.{LinkView};
 
     ghost Value = { LinkView };
 

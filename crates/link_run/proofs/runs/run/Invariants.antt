@@ -11,5 +11,5 @@ invariant-loop-t l = record {
   stands : (plan : Plan) → plan_of l.s ≡ Some plan → HasRun l.state plan (run_of plan l.t);
   reported : (plan : Plan) → plan_of l.s ≡ Some plan → HasReported l.report plan (run_of plan l.t);
   few : AreFew l.report.totals l.t;
-  size : l.report.size ≡ l.s.shape.m * l.s.shape.s
+  size : l.report.size ≡ l.s.shape.m * l.s.shape.s;
 }
