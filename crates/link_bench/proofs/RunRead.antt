@@ -1,10 +1,7 @@
 -- What an input says that was read for `run`, and what its scenario obeys.
 use Rattle.std.proofs.Common.{◌≡◌, ◌∙◌, ℕ, ◌<◌, true, Option, Some, None, Ok, Err, option_map, List, IsTrue, is_some, refl, sym, ap}
 use Rattle.std.specs.Prelude.{Result}
-use Rattle.std.specs.Option.{ForSome}
-use Rattle.link_params.specs.declared.fields.Mode.{Mode}
-use Rattle.link_params.specs.declared.fields.Mode.TheVariants as mode
-use Rattle.link_params.specs.Laws.{broken_law, is_b}
+use Rattle.link_params.specs.Laws.{broken_law}
 use Rattle.link_params.specs.Links.{Link}
 use Rattle.link_params.specs.TimingLaws.{broken_timing}
 use Rattle.scenario.specs.declared.kind.Job.{Job}
@@ -18,33 +15,23 @@ use Rattle.scenario.proofs.ReadingLaws.{frame-size, reads-legal-plans, reads-pla
 use Rattle.link_run.proofs.FeedLemmas.{fits, same_params}
 use Rattle.link_run.proofs.PlanFacts.{plan-facts}
 use Rattle.link_laws.specs.Laws.{IsPlanRead}
-use Rattle.link_laws.specs.LawsB.{RunLaws}
-use Rattle.link_laws.proofs.RunsByLaws.{runs-by-laws}
+use Rattle.link_laws_c.specs.RunLaws.{RunLaws}
+use Rattle.link_laws_c.proofs.RunsByLaws.{runs-by-laws}
 use Rattle.link_bench.specs.Lawful.{RunsAreLawful}
 use Rattle.link_bench.specs.Scenarios.{IsReady}
-
-mode-b : (m : Mode) → is_b m ≡ true → m ≡ mode.B
-mode-b mode.B e = refl
-mode-b mode.CCrc e = cc e
-mode-b mode.CFec e = cc e
 
 -- ---- a scenario that was read for a job is ready for it
 
 link-some : (o : Option Link) (s : Scenario) (plan : Plan) → plan_with o s ≡ Some plan
-    → plan.link.params.mode ≡ mode.B
-    → IsTrue (is_some o) × ForSome o (λ k. k.params.mode ≡ mode.B)
-link-some None s plan e b = cc e
-link-some (Some k) s plan e b =
-    let linked : Some k ≡ Some plan.link = ap (option_map (λ (p : Plan). p.link)) e in
-    let same : k ≡ plan.link = cc linked in
-    (refl, λ x is. let one : k ≡ x = cc is in ap (λ (l : Link). l.params.mode) (sym one ∙ same) ∙ b)
+    → IsTrue (is_some o)
+link-some None s plan e = cc e
+link-some (Some k) s plan e = refl
 
 ready-run : (due : Result Seen Refusal) (bytes : List ℕ) (s : Scenario) → reads job.Run bytes ≡ due
     → Answers due (Ok s) → IsReady job.Run s
 ready-run (Ok seen) bytes s e a =
     let (plan, is) = reads-plans bytes seen e in
-    let legal = reads-legal-plans bytes seen plan e is in
-    link-some s.link s plan (sym a.plan ∙ is) (mode-b plan.link.params.mode legal.built)
+    link-some s.link s plan (sym a.plan ∙ is)
 ready-run (Err b) bytes s e a = absurd a
 
 pub ready : (j : Job) (bytes : List ℕ) (s : Scenario) → Answers (reads j bytes) (Ok s) → IsReady j s
@@ -66,7 +53,7 @@ legal-read plan legal = record {
 pub runs_are_lawful : RunsAreLawful
 runs_are_lawful bytes seen plan e is =
     let legal = reads-legal-plans bytes seen plan e is in
-    runs-by-laws plan (legal-read plan legal) (mode-b plan.link.params.mode legal.built)
+    runs-by-laws plan (legal-read plan legal)
 
 -- the plan of a scenario, whose link obeys its laws
 pub scenario-read : (s : Scenario) (plan : Plan) → plan_of s ≡ Some plan
@@ -89,10 +76,9 @@ scenario-read s plan is laws timing =
 -- the laws of a link hold of its run
 pub scenario-laws : (s : Scenario) (plan : Plan) (k : Link) → plan_of s ≡ Some plan
     → s.link ≡ Some k → broken_law k.params ≡ None → broken_timing k.params k.timing ≡ None
-    → ForSome s.link (λ k. k.params.mode ≡ mode.B) → RunLaws plan
-scenario-laws s plan k is linked laws timing b =
+    → RunLaws plan
+scenario-laws s plan k is linked laws timing =
     let facts = plan-facts s plan is in
     let both : Some k ≡ Some plan.link = sym linked ∙ facts.link in
     let same : k ≡ plan.link = cc both in
     runs-by-laws plan (scenario-read s plan is (rw (← same) laws) (rw (← same) timing))
-    (b plan.link facts.link)

@@ -10,9 +10,8 @@ use Rattle.scenario.specs.declared.kind.Job.TheVariants as job
 use Rattle.scenario.specs.Answer.{shape_of}
 use Rattle.scenario.specs.Plans.{Plan, plan_read}
 use Rattle.scenario.specs.Reads.{Seen, Refusal, reads}
-use Rattle.lane_b.specs.Received.{lanes_b}
-use Rattle.link_model.specs.Run.{run}
-use Rattle.link_model.specs.Report.{report, totals}
+use Rattle.link_model.specs.Kinds.{report_of, run_of}
+use Rattle.link_model.specs.Report.{totals}
 use Rattle.link_bench.specs.Lines.{IsMapped, IsUnmapped}
 
 -- the job of a task; `gen` is not built yet
@@ -46,12 +45,12 @@ IsText job.Map seen text = (p : Params) × (shape_of seen.stage ≡ Some p)
 IsText job.Unmap seen text = (p : Params) × (shape_of seen.stage ≡ Some p)
     × IsUnmapped p seen.octets text
 IsText job.Run seen text = (plan : Plan) × (plan_read seen ≡ Some plan)
-    × (text ≡ report lanes_b plan)
+    × (text ≡ report_of plan)
 
 -- how many alarms the run of a plan raises
 abbrev pub alarms_in : Option Plan → ℕ
 alarms_in None = 0
-alarms_in (Some plan) = (totals plan (run lanes_b plan plan.ticks)).alarms
+alarms_in (Some plan) = (totals plan (run_of plan plan.ticks)).alarms
 
 -- how many alarms a job raises; only a run raises any
 abbrev pub alarms_of : Job → Seen → ℕ

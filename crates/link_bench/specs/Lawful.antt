@@ -4,7 +4,7 @@ use Rattle.std.specs.Prelude.{◌≡◌, ℕ, List, Some, Ok}
 use Rattle.scenario.specs.declared.kind.Job.TheVariants as job
 use Rattle.scenario.specs.Plans.{Plan, plan_read}
 use Rattle.scenario.specs.Reads.{Seen, reads}
-use Rattle.link_laws.specs.LawsB.{RunLaws}
+use Rattle.link_laws_c.specs.RunLaws.{RunLaws}
 
 -- the laws of a link hold of the run of each plan that the records of an accepted input spell: of
 -- the plan whose report is written

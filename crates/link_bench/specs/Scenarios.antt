@@ -1,14 +1,11 @@
 -- The text of a job and its alarms, of the scenario as it was read.
 use Rattle.std.specs.Prelude.{◌≡◌, ℕ, List, Some, IsTrue, is_some}
-use Rattle.std.specs.Option.{ForSome}
-use Rattle.link_params.specs.declared.fields.Mode.TheVariants.{B}
-use Rattle.lane_b.specs.Received.{lanes_b}
 use Rattle.scenario.specs.declared.kind.Job.{Job}
 use Rattle.scenario.specs.declared.kind.Job.TheVariants as job
 use Rattle.scenario.specs.declared.scenario_type.Scenario.{Scenario}
 use Rattle.scenario.specs.Inputs.{input_words}
 use Rattle.scenario.specs.Plans.{Plan, plan_of}
-use Rattle.link_model.specs.Report.{report}
+use Rattle.link_model.specs.Kinds.{report_of}
 use Rattle.link_bench.specs.Jobs.{alarms_in}
 use Rattle.link_bench.specs.Lines.{IsMapped, IsUnmapped}
 
@@ -16,7 +13,7 @@ use Rattle.link_bench.specs.Lines.{IsMapped, IsUnmapped}
 abbrev pub IsLines : Job → Scenario → List ℕ → Type 0
 IsLines job.Map s text = IsMapped s.shape (input_words s.input) text
 IsLines job.Unmap s text = IsUnmapped s.shape s.octets.items text
-IsLines job.Run s text = (plan : Plan) × (plan_of s ≡ Some plan) × (text ≡ report lanes_b plan)
+IsLines job.Run s text = (plan : Plan) × (plan_of s ≡ Some plan) × (text ≡ report_of plan)
 
 -- how many alarms a job raises
 abbrev pub alarms_for : Job → Scenario → ℕ
@@ -24,8 +21,8 @@ alarms_for job.Map s = 0
 alarms_for job.Unmap s = 0
 alarms_for job.Run s = alarms_in (plan_of s)
 
--- a run has a link with 8b/10b lanes
+-- a run has a link
 abbrev pub IsReady : Job → Scenario → Type 0
 IsReady job.Map s = Unit {0}
 IsReady job.Unmap s = Unit {0}
-IsReady job.Run s = IsTrue (is_some s.link) × ForSome s.link (λ k. k.params.mode ≡ B)
+IsReady job.Run s = IsTrue (is_some s.link)

@@ -14,6 +14,8 @@ mod link;
 #[cfg(test)]
 mod tests;
 #[cfg(test)]
+mod tests_blocks;
+#[cfg(test)]
 mod tests_lanes;
 #[cfg(test)]
 mod tests_run;

@@ -107,7 +107,7 @@ fn worked_examples(rt: HostRuntime) -> Result<(), Fail> {
             &["run"],
             b"jesd,1\nlink,ccrc,1,1,2,1,16,16,0,0,1,0,1\n",
             Status::BadScenario,
-            b"bad,2,12,1\n",
+            b"bad,3,11,0\n",
         ),
         (&["gen"], TWELVE_BITS, Status::BadWords, USAGE),
         (

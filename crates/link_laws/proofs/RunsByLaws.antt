@@ -1,6 +1,6 @@
 -- The laws of each run of 8b/10b lanes.
 use Rattle.lane_b.specs.Received.{lanes_b}
-use Rattle.link_laws.specs.LawsB.{RunsByLaws}
+use Rattle.link_laws.specs.LawsB.{RunsByLawsB}
 use Rattle.link_laws.specs.Premises.{lock_pattern}
 use Rattle.link_laws.proofs.BoundLone.{bound-from-lanes}
 use Rattle.link_laws.proofs.FullestBuffer.{fullest-from-depth}
@@ -11,7 +11,7 @@ use Rattle.link_laws.proofs.Latency.{latency-from-lanes}
 use Rattle.link_laws.proofs.MarkedEntries.{marks-b}
 use Rattle.link_laws.proofs.Outside.{outside-from-lanes}
 
-pub runs-by-laws : RunsByLaws
+pub runs-by-laws : RunsByLawsB
 runs-by-laws s read mode =
     let lanes = lane-laws-b s read mode lock_pattern in record {
       latency = latency-from-lanes lanes_b lock_pattern s read lanes;

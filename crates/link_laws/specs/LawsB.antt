@@ -16,7 +16,7 @@ LaneLawsB = (s : Plan) (pattern : Pattern) → IsPlanRead s → s.link.params.mo
     → LaneLaws lanes_b pattern s
 
 -- the laws of the run of a plan with 8b/10b lanes
-pub record RunLaws (s : Plan) : Type 0 where
+pub record RunLawsB (s : Plan) : Type 0 where
   pub latency : Latency lanes_b lock_pattern s
   pub bound : Bound lanes_b lock_pattern s
   pub depth : Depth lanes_b s
@@ -28,5 +28,5 @@ pub record RunLaws (s : Plan) : Type 0 where
   pub lanes : LaneLaws lanes_b lock_pattern s
 
 -- they hold of the run of each plan that was read
-abbrev pub RunsByLaws : Type 0
-RunsByLaws = (s : Plan) → IsPlanRead s → s.link.params.mode ≡ B → RunLaws s
+abbrev pub RunsByLawsB : Type 0
+RunsByLawsB = (s : Plan) → IsPlanRead s → s.link.params.mode ≡ B → RunLawsB s

@@ -1,5 +1,5 @@
 //! The laws of the runs of 8b/10b lanes.
-ghost use Rattle.link_laws.specs.LawsB.{LaneLawsB, RunsByLaws};
+ghost use Rattle.link_laws.specs.LawsB.{LaneLawsB, RunsByLawsB};
 
 /// The laws of the run of each plan that was read, with 8b/10b lanes (JESD204B.01 clauses 5.3.3
 /// link operation and 6 deterministic latency).
@@ -17,6 +17,6 @@ ghost use Rattle.link_laws.specs.LawsB.{LaneLawsB, RunsByLaws};
 /// These follow from the laws of one lane, which hold too: when it locks, when it starts, and what
 /// it hands on. `lanes` says these for any pattern of a lock.
 pub fn laws_of_lanes_b()
-    ensures run { RunsByLaws }
+    ensures run { RunsByLawsB }
     ensures lanes { LaneLawsB }
 {}

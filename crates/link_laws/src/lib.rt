@@ -3,8 +3,8 @@
 //! nothing here runs, and no law speaks of the code that runs a link.
 //!
 //! ```text
-//! ghost use Rattle.link_laws.specs.LawsB.{RunLaws};
-//! ensures laws { (plan : Plan) → plan_of scenario.now ≡ Some plan → RunLaws plan }
+//! ghost use Rattle.link_laws.specs.LawsB.{RunLawsB};
+//! ensures laws { (plan : Plan) → IsPlanRead plan → plan.link.params.mode ≡ B → RunLawsB plan }
 //! ```
 #![tactic(auto)]
 

@@ -7,7 +7,8 @@ use Rattle.lane_c.specs.Received.{lanes_c}
 use Rattle.scenario.specs.Plans.{Plan}
 use Rattle.link_laws.specs.Premises.{lock_pattern}
 use Rattle.link_laws.specs.LaneLaws.{LaneLaws}
-use Rattle.link_laws.specs.Laws.{Bound, Depth, Fullest, IsPlanRead, Latency, Outside}
+use Rattle.link_laws.specs.Laws.{Bound, Depth, Fullest, IsPlanRead, Latency, Marks, Outside}
+use Rattle.link_laws_c.specs.CheckedC.{checked_c}
 
 -- the lane laws hold of the run of each plan that was read, with CRC-12 and with FEC
 abbrev pub LaneLawsC : Type 0
@@ -35,3 +36,7 @@ FullestC = (s : Plan) → IsPlanRead s → is_b s.link.params.mode ≡ false →
 abbrev pub OutsideC : Type 0
 OutsideC = (s : Plan) → IsPlanRead s → is_b s.link.params.mode ≡ false
     → Outside lanes_c lock_pattern s
+
+-- each delivered frame has the mark that its octets are due
+abbrev pub MarksC : Type 0
+MarksC = (s : Plan) → IsPlanRead s → is_b s.link.params.mode ≡ false → Marks lanes_c checked_c s

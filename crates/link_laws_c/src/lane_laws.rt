@@ -5,6 +5,7 @@ ghost use Rattle.link_laws_c.specs.LaneLawsC.{
   FullestC,
   LaneLawsC,
   LatencyC,
+  MarksC,
   OutsideC,
 };
 
@@ -24,7 +25,8 @@ ghost use Rattle.link_laws_c.specs.LaneLawsC.{
 ///
 /// In every run, whatever its lines do, each elastic buffer has room for the entry of each tick and
 /// holds one in each tick in which it is to give one, and the fullest buffer of the report is
-/// within its depth.
+/// within its depth. Each delivered frame has exactly the mark that its octets are due: the worst of
+/// what the checks say of their own blocks and of the blocks before these.
 pub fn lane_laws_of_lanes_c()
     ensures lane_laws { LaneLawsC }
     ensures latency { LatencyC }
@@ -32,4 +34,5 @@ pub fn lane_laws_of_lanes_c()
     ensures depth { DepthC }
     ensures fullest { FullestC }
     ensures outside { OutsideC }
+    ensures marks { MarksC }
 {}

@@ -1,6 +1,6 @@
 -- Loops over the lanes.
 use Rattle.std.proofs.Common.{◌≡◌, ◌≢◌, ◌<◌, ◌≤◌, ℕ, zero, suc, ◌+◌, ◌*◌, List, [], ◌∷◌, ◌++◌, map, length, get_or, set, take, refl, sym, ap, ap₂, ◌∙◌, subst, drop, inl, inr, arith, length-set, Option, None, max, fold}
-use Rattle.std.specs.Prelude.{All, IsTrue, nat_le, nat_lt, ◌&&◌}
+use Rattle.std.specs.Prelude.{All, IsTrue, false, nat_le, nat_lt, ◌&&◌, slice_index}
 use Rattle.std.proofs.lemmas.Bool.{and_parts, cases_lt, leb-true}
 use Rattle.std.proofs.lemmas.List.{get_or-set_same, get_or-set_other, get_or_push, get_or_append_left, get_or_default, length_push, length-map, map_more, get_or-map, append-nil, drop_all, take_all}
 use Rattle.std.proofs.lemmas.List.Sums.{fold_push}
@@ -10,17 +10,19 @@ use Rattle.link_params.specs.declared.orders.RxOrder.{RxOrder}
 use Rattle.link_params.specs.declared.lane_report.LaneReport.{LaneReport}
 use Rattle.link_params.specs.declared.cells.LaneCell.{LaneCell}
 use Rattle.link_params.specs.Lanes.{Placed}
-use Rattle.lane_b.specs.Received.{entries_b, report_b}
 use Rattle.lane_b.specs.Gives.{given}
-use Rattle.lane_b.specs.Senders.{next_place}
-use Rattle.link_params.specs.declared.fields.Mode.TheVariants.{B}
+use Rattle.lane_c.specs.Receivers.{IsArmedOn}
 use Rattle.link_params.specs.Links.{Link}
 use Rattle.link_params.specs.Numbers.{width}
 use Rattle.scenario.specs.declared.plan.Flip.{Flip}
 use Rattle.scenario.specs.Limits.{flip_fits}
 use Rattle.scenario.specs.Plans.{Plan, numbers_from}
-use Rattle.link_model.specs.LaneRuns.{LaneRun, held_by, no_run, octet_handed, stepped}
+use Rattle.link_model.specs.Kinds.{kind_of}
+use Rattle.link_model.specs.LaneRuns.{LaneRun, held_by, no_run, stepped}
+use Rattle.link_run.specs.LaneEnds.{buffer_in, next_in, params_in, tx_width}
 use Rattle.link_run.specs.LaneRuns.{AreAt, HasRunLane, HaveRun, Pair}
+use Rattle.link_run.specs.Sendings.{next_after}
+use Rattle.link_run.proofs.KindEnds.{buffer-count}
 
 -- the first n lanes have changed as R says of a lane before and after, and the others are as they
 -- were
@@ -66,22 +68,30 @@ written-back n lanes items long same =
     ap (λ l. take n (items ++ l)) (drop_all (length items) lanes (omega arith))
     ∙ ap (take n) (append-nil items) ∙ take_all n items (omega arith)
 
+pub have-run-below : (R : ℕ → Pair → Pair → Type 0) (old new : List Pair) (n : ℕ) (s : Plan)
+    (runs next : ℕ → LaneRun) → HaveChanged R old new n → length new ≤ n
+    → ((k : ℕ) (x y : Pair) → k < s.link.params.l → R k x y → HasRunLane x s k (runs k)
+    → HasRunLane y s k (next k))
+    → HaveRun old s runs → HaveRun new s next
+have-run-below R old new n s runs next h all step run =
+    let same = h.count in
+    let count = run.0 in (
+      h.count ∙ run.0,
+      λ lane d below. step lane (get_or old lane d) (get_or new lane d) below
+          (h.changed lane d (omega arith)) (run.1 lane d below),
+    )
+
 pub have-run : (R : ℕ → Pair → Pair → Type 0) (old new : List Pair) (n : ℕ) (s : Plan)
     (runs next : ℕ → LaneRun) → HaveChanged R old new n → length new ≤ n
     → ((k : ℕ) (x y : Pair) → R k x y → HasRunLane x s k (runs k) → HasRunLane y s k (next k))
     → HaveRun old s runs → HaveRun new s next
 have-run R old new n s runs next h all step run =
-    let same = h.count in
-    let count = run.0 in (
-      h.count ∙ run.0,
-      λ lane d below. step lane (get_or old lane d) (get_or new lane d)
-          (h.changed lane d (omega arith)) (run.1 lane d below),
-    )
+    have-run-below R old new n s runs next h all (λ k x y below. step k x y) run
 
 pub are-at : (R : ℕ → Pair → Pair → Type 0) (old new : List Pair) (n : ℕ) (p : Params)
     (place next : Option ℕ) → HaveChanged R old new n → length new ≤ n
-    → ((k : ℕ) (x y : Pair) → R k x y → (x.tx.params ≡ p) × (x.tx.next ≡ place)
-    → (y.tx.params ≡ p) × (y.tx.next ≡ next)) → AreAt old p place → AreAt new p next
+    → ((k : ℕ) (x y : Pair) → R k x y → (params_in x.tx ≡ p) × (next_in x.tx ≡ place)
+    → (params_in y.tx ≡ p) × (next_in y.tx ≡ next)) → AreAt old p place → AreAt new p next
 are-at R old new n p place next h all step at =
     let same = h.count in
     λ lane d below. step lane (get_or old lane d) (get_or new lane d)
@@ -146,7 +156,7 @@ all-written W lanes out n s runs f h all len run is =
 -- ---- what the lanes hold
 
 abbrev pub held_in : Pair → ℕ
-held_in x = length x.rx.buffer.cells
+held_in x = length (buffer_in x.rx).cells
 
 pub held-more : (lanes : List Pair) (n most : ℕ) (d : Pair) → n < length lanes
     → fold max most (map held_in (take (n + 1) lanes))
@@ -156,44 +166,50 @@ held-more lanes n most d below =
     ∙ fold_push max most (map held_in (take n lanes)) (held_in (get_or lanes n d))
 
 pub all-held : (lanes : List Pair) (s : Plan) (runs : ℕ → LaneRun) → HaveRun lanes s runs
-    → map held_in lanes ≡ map (held_by s runs) (numbers_from 0 s.link.params.l)
+    → map held_in lanes ≡ map (held_by (kind_of s.link.params) s runs)
+    (numbers_from 0 s.link.params.l)
 all-held lanes s runs run =
     let count = run.0 in
-    mapped s.link.params.l 0 (map held_in lanes) (held_by s runs) (length-map lanes held_in ∙ run.0)
+    let f = held_by (kind_of s.link.params) s runs in
+    mapped s.link.params.l 0 (map held_in lanes) f (length-map lanes held_in ∙ run.0)
     (λ k e low.
     let z : k ≡ 0 + k = omega arith in
     let d = head-of lanes (omega arith) in
-    get_or-map held_in lanes k d e (omega arith) ∙ (run.1 k d low).rx.holds.count
-    ∙ ap (held_by s runs) z)
+    get_or-map held_in lanes k d e (omega arith)
+    ∙ buffer-count (get_or lanes k d).rx s.link.params s.link.timing k (runs k).taken
+    (runs k).gave (run.1 k d low).rx
+    ∙ ap f z)
 
 -- ---- what is done to a lane
 
 pub record IsCleared (lane : ℕ) (x y : Pair) : Type 0 where
   pub goes_on : (s : Plan) (k : ℕ) (r : LaneRun) → HasRunLane x s k r
       → HasRunLane y s k (record r { handed = [] })
-  pub next : y.tx.next ≡ None
-  pub same : y.tx.params ≡ x.tx.params
+  pub next : next_in y.tx ≡ None
+  pub same : params_in y.tx ≡ params_in x.tx
 
 pub record HasGiven (lane : ℕ) (x y : Pair) : Type 0 where
   pub goes_on : (s : Plan) (k : ℕ) (r : LaneRun) → HasRunLane x s k r
       → HasRunLane y s k (record r { gave = r.gave + 1 })
-  pub next : y.tx.next ≡ x.tx.next
-  pub same : y.tx.params ≡ x.tx.params
+  pub tx : y.tx ≡ x.tx
 
 pub record IsGiven (lane : ℕ) (x : Pair) (c : Option LaneCell) : Type 0 where
   pub entry : (s : Plan) (k : ℕ) (r : LaneRun) → HasRunLane x s k r
-      → c ≡ given (get_or (entries_b s.link.params s.link.timing k r.taken) r.gave Placed)
+      → c ≡ given (get_or ((kind_of s.link.params).entries s.link.params s.link.timing k r.taken)
+      r.gave Placed)
 
 pub record IsReport (lane : ℕ) (x : Pair) (report : LaneReport) : Type 0 where
   pub is : (s : Plan) (k : ℕ) (r : LaneRun) → HasRunLane x s k r
-      → report ≡ report_b s.link.params s.link.timing k r.taken
+      → report ≡ (kind_of s.link.params).report s.link.params s.link.timing k r.taken
 
-pub record HasStepped (order : TxOrder) (told : RxOrder) (p : Params) (octets : List ℕ)
-    (at : Option ℕ) (lane : ℕ) (x y : Pair) : Type 0 where
+pub record HasStepped (order : TxOrder) (told : RxOrder) (handed : List ℕ) (lane : ℕ)
+    (x y : Pair) : Type 0 where
   pub goes_on : (s : Plan) (k : ℕ) (r : LaneRun) → HasRunLane x s k r
-      → HasRunLane y s k (stepped s k r order (octet_handed p octets at lane) told)
-  pub next : y.tx.next ≡ next_place x.tx.params order
-  pub same : y.tx.params ≡ x.tx.params
+      → (told.hunt ≡ false → IsArmedOn r.taken told)
+      → HasRunLane y s k
+      (stepped (kind_of s.link.params) s k r order (slice_index handed lane) told)
+  pub next : next_in y.tx ≡ next_after (params_in x.tx) order
+  pub same : params_in y.tx ≡ params_in x.tx
 
 -- ---- lanes that are opened
 
@@ -222,18 +238,17 @@ opened-more P lanes n x one h =
 pub record IsOpened (link : Link) (flips : List Flip) (ticks lane : ℕ) (x : Pair) : Type 0 where
   pub begins : (s : Plan) → s.link ≡ link → s.flips ≡ flips → s.ticks ≡ ticks
       → HasRunLane x s lane (no_run s)
-  pub same : x.tx.params ≡ link.params
-  pub next : x.tx.next ≡ None
+  pub same : params_in x.tx ≡ link.params
+  pub next : next_in x.tx ≡ None
 
--- flips of 8b/10b lanes lie within the ticks' bits
-pub fits-within : (p : Params) (ticks : ℕ) (flips : List Flip) → p.mode ≡ B
+-- flips lie within the ticks' bits
+pub fits-within : (p : Params) (ticks : ℕ) (flips : List Flip)
     → All (λ f. IsTrue (flip_fits p ticks f)) flips
-    → All (λ f. f.first + f.count ≤ 10 * ticks) flips
-fits-within p ticks flips mode fit k d below =
+    → All (λ f. f.first + f.count ≤ width p * ticks) flips
+fits-within p ticks flips fit k d below =
     let f = get_or flips k d in
     let a =
     and_parts (nat_lt f.lane p.l)
     (nat_le 1 f.count && nat_le (f.first + f.count) (width p * ticks)) (fit k d below) in
     let b = and_parts (nat_le 1 f.count) (nat_le (f.first + f.count) (width p * ticks)) a.1 in
-    let narrow : width p ≡ 10 = rw mode refl in
-    rw narrow at (leb-true (f.first + f.count) (width p * ticks) b.1)
+    leb-true (f.first + f.count) (width p * ticks) b.1

@@ -2,22 +2,13 @@
 use Rattle.std.proofs.Common.{◌≡◌, ◌∙◌, ◌<◌, Bool, get_or, ℕ, List, [], length, Some, None, false, unwrap_or, arith, is_some, if◌then◌else◌, sym, ap, subst, refl}
 use Rattle.link_params.specs.declared.alarms.Device.TheVariants.{Tx}
 use Rattle.link_params.specs.Links.{Link}
-use Rattle.lane_b.specs.Received.{lanes_b, entries_b}
 use Rattle.scenario.specs.declared.scenario_type.Scenario.{Scenario}
 use Rattle.scenario.specs.Plans.{Plan, plan_of}
-use Rattle.link_params.specs.declared.fields.Mode.TheVariants.{B}
-use Rattle.link_params.specs.Laws.{broken_law}
-use Rattle.link_params.specs.TimingLaws.{broken_timing}
-use Rattle.bring_up.specs.declared.stage.Stage.TheVariants as stage
-use Rattle.link_model.proofs.Depth.{has-entry, has-room}
-use Rattle.link_model.proofs.LaneHistory.{has-hunt-run, ready-handed, same-runs, took-stepped}
-use Rattle.link_model.proofs.NextMoment.{next}
+use Rattle.link_model.proofs.LaneHistory.{ready-handed, same-runs}
 use Rattle.link_model.specs.Before.{dead_before, delay_before}
 use Rattle.link_model.specs.Edges.{is_reset}
-use Rattle.link_model.specs.LaneRuns.{LaneRun, lane_ready, lane_run, lane_stepped}
+use Rattle.link_model.specs.LaneRuns.{LaneRun, lane_ready, lane_run}
 use Rattle.link_model.specs.Moments.{History}
-use Rattle.link_model.specs.Receives.{told_of}
-use Rattle.link_model.specs.Run.{run}
 use Rattle.link_run.proofs.FeedLemmas.{some_plan}
 use Rattle.link_run.proofs.PlanFacts.{plan-facts}
 use Rattle.link_run.specs.Happened.{AreAsBefore, as_of}
@@ -60,35 +51,3 @@ pub link-of : (s : Scenario) (k : Link) (plan : Plan) → s.link ≡ Some k → 
     → k ≡ plan.link
 link-of s k plan is of = let facts = plan-facts s plan of in
     some-same k plan.link (sym is ∙ facts.link)
-
--- the link is legal, and has 8b/10b lanes
-pub record IsGood (k : Link) : Type 0 where
-  pub laws : broken_law k.params ≡ None
-  pub timing : broken_timing k.params k.timing ≡ None
-  pub mode : k.params.mode ≡ B
-
--- each lane that is ready has room, where no hunt begins
-pub ready-room : (lanes : List Pair) (s : Plan) (t lane : ℕ) (d : Pair) → IsGood s.link
-    → HaveRun lanes s (λ l. lane_ready s (run lanes_b s t) l) → lane < length lanes
-    → (told_of s (run lanes_b s t)).hunt ≡ false
-    → length (get_or lanes lane d).rx.buffer.cells < (get_or lanes lane d).rx.buffer.depth
-ready-room lanes s t lane d good ran below goes =
-    let within : lane < s.link.params.l = omega (arith, ran.0) in
-    let r = ran.1 lane d within in
-    let room = has-room t s lane good.laws good.timing good.mode within goes in
-    rw (r.rx.holds.count, r.depth) room
-
--- each lane that was stepped holds an entry, where the link is released
-pub stepped-entry : (lanes : List Pair) (s : Plan) (t lane : ℕ) (d : Pair) → IsGood s.link
-    → HaveRun lanes s (λ l. lane_stepped s (run lanes_b s t) l) → lane < length lanes
-    → (next s (run lanes_b s t)).stage ≡ stage.Run
-    → 0 < length (get_or lanes lane d).rx.buffer.cells
-stepped-entry lanes s t lane d good ran below runs =
-    let within : lane < s.link.params.l = omega (arith, ran.0) in
-    let h = run lanes_b s t in
-    let r = ran.1 lane d within in
-    let entry = has-entry t s lane good.laws good.timing good.mode within runs in
-    let same = ap (λ taken. length (entries_b s.link.params s.link.timing lane taken))
-    (took-stepped s h lane (has-hunt-run t s)) in
-    let count = r.rx.holds.count in
-    rw count (let n = rw same at entry in omega arith)

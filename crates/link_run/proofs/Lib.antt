@@ -1,9 +1,12 @@
 pub mod EdgeTicks
 pub mod OrderLemmas
+pub mod BlockOrders
 pub mod SyncLemmas
 pub mod FeedLemmas
+pub mod Handing
 pub mod PlanFacts
 pub mod LinkFacts
+pub mod KindEnds
 pub mod PairLemmas
 pub mod FlipLemmas
 pub mod LaneLemmas
@@ -12,6 +15,7 @@ pub mod Marks
 pub mod Gathering
 pub mod NamedOctets
 pub mod RunFacts
+pub mod Rooms
 pub mod EventLemmas
 pub mod TickRows
 pub mod LaneStates

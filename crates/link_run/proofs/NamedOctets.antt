@@ -12,13 +12,18 @@ use Rattle.link_params.specs.declared.ilas_state.IlasState.TheVariants.{Going, D
 use Rattle.link_params.specs.declared.lane_report.LaneReport.{LaneReport}
 use Rattle.link_params.specs.Config.{differs, has_sum}
 use Rattle.link_params.specs.Lanes.{Taken}
+use Rattle.link_params.specs.Laws.{is_b}
 use Rattle.link_params.specs.Numbers.{period}
 use Rattle.code_8b10b.specs.declared.character.Reading.{Reading}
 use Rattle.code_8b10b.specs.declared.character.Reading.TheVariants.{Char as Read, Disparity, Invalid}
 use Rattle.ilas.specs.Sequence.{ilas_char}
 use Rattle.ilas.specs.Checked.{cause_at, config_cause, config_read, fault_or, first_fault, ilas_state, is_allowed, octet_of_char}
 use Rattle.lane_b.specs.Locking.{Lock, lock, since_start}
-use Rattle.lane_b.specs.Received.{report_b, report_of}
+use Rattle.lane_b.specs.Received.{lanes_b, report_b, report_of}
+use Rattle.multiblock.specs.Places.{Place}
+use Rattle.lane_c.specs.Locking.{place}
+use Rattle.lane_c.specs.Received.{lanes_c, report_c, report_of as placed}
+use Rattle.link_model.specs.Kinds.{kind_of}
 use Rattle.bring_up.specs.Controls.{NamesOctet}
 
 -- a cause Config comes from a configuration octet that is not the last one
@@ -94,22 +99,42 @@ report-octet : (p : Params) (lane : ℕ) (taken : List Taken) (o : Option Lock)
 report-octet p lane taken None = λ x is. absurd (cc)
 report-octet p lane taken (Some l) = λ x is. config-state p lane (since_start l) x is
 
-pub names-octet : (p : Params) (t : Timing) (lane : ℕ) (taken : List Taken)
+names-octet-b : (p : Params) (t : Timing) (lane : ℕ) (taken : List Taken)
     → NamesOctet p (report_b p t lane taken)
 unfolding report_b
-names-octet p t lane taken = report-octet p lane taken (lock taken)
+names-octet-b p t lane taken = report-octet p lane taken (lock taken)
+
+-- a 64b/66b lane has no initial lane alignment sequence
+no-octet : (p : Params) (taken : List Taken) (o : Option Place) → NamesOctet p (placed p taken o)
+no-octet p taken None = λ x is. absurd (cc)
+no-octet p taken (Some at) = λ x is. absurd (cc)
+
+names-octet-c : (p : Params) (t : Timing) (lane : ℕ) (taken : List Taken)
+    → NamesOctet p (report_c p t lane taken)
+unfolding report_c
+names-octet-c p t lane taken = no-octet p taken (place p.e taken)
+
+-- a lane of either kind
+of-kind : (b : Bool) (p : Params) (t : Timing) (lane : ℕ) (taken : List Taken)
+    → NamesOctet p ((if b then lanes_b else lanes_c).report p t lane taken)
+of-kind true p t lane taken = names-octet-b p t lane taken
+of-kind false p t lane taken = names-octet-c p t lane taken
+
+pub names-octet : (p : Params) (t : Timing) (lane : ℕ) (taken : List Taken)
+    → NamesOctet p ((kind_of p).report p t lane taken)
+names-octet p t lane taken = of-kind (is_b p.mode) p t lane taken
 
 -- ---- the reports of several lanes
 
 name-octets : (lanes : List ℕ) (p : Params) (t : Timing) (f : ℕ → List Taken) (k : ℕ)
     (d : LaneReport) → k < length lanes
-    → NamesOctet p (get_or (map (λ lane. report_b p t lane (f lane)) lanes) k d)
+    → NamesOctet p (get_or (map (λ lane. (kind_of p).report p t lane (f lane)) lanes) k d)
 name-octets [] p t f k d below = absurd (omega arith)
 name-octets (lane ∷ lanes) p t f zero d below = names-octet p t lane (f lane)
 name-octets (lane ∷ lanes) p t f (suc k) d below = name-octets lanes p t f k d (omega arith)
 
 pub names-octets : (p : Params) (t : Timing) (f : ℕ → List Taken) (lanes : List ℕ)
-    → All (NamesOctet p) (map (λ lane. report_b p t lane (f lane)) lanes)
+    → All (NamesOctet p) (map (λ lane. (kind_of p).report p t lane (f lane)) lanes)
 names-octets p t f lanes = λ k d below.
-    let long = length-map lanes (λ lane. report_b p t lane (f lane)) in
+    let long = length-map lanes (λ lane. (kind_of p).report p t lane (f lane)) in
     name-octets lanes p t f k d (omega arith)

@@ -1,7 +1,6 @@
 -- A tick of a lane.
-use Rattle.std.proofs.Common.{◌≡◌, ℕ, Bool, true, false, List, [], ◌∷◌, ◌++◌, map, refl, sym, ap, ◌∙◌, subst}
+use Rattle.std.proofs.Common.{◌≡◌, ℕ, Bool, true, false, List, [], ◌∷◌, ◌++◌, refl, sym, ap, ◌∙◌, subst}
 use Rattle.std.specs.Prelude.{if◌then◌else◌}
-use Rattle.std.proofs.lemmas.List.{map-append}
 use Rattle.jesd_base.specs.Bits.{bits}
 use Rattle.link_params.specs.declared.fields.Params.{Params}
 use Rattle.link_params.specs.declared.fields.Timing.{Timing}
@@ -11,12 +10,12 @@ use Rattle.link_params.specs.Numbers.{depth, width}
 use Rattle.link_params.specs.Lanes.{Taken}
 use Rattle.line_model.specs.LineBits.{line_word}
 use Rattle.line_model.specs.Lines.{HasCarried}
-use Rattle.lane_b.specs.Sent.{sent_words}
-use Rattle.lane_b.specs.Senders.{HasSent}
-use Rattle.lane_b.specs.Receivers.{HasTaken, Receiver}
 use Rattle.scenario.specs.Plans.{Plan}
+use Rattle.link_model.specs.Kinds.{kind_of}
 use Rattle.link_model.specs.LaneRuns.{LaneRun, bits_with, handed_with, stepped, word_with}
 use Rattle.link_model.specs.Sends.{last_of}
+use Rattle.link_run.specs.declared.rx_lane.RxLane.{RxLane}
+use Rattle.link_run.specs.LaneEnds.{HasSent, HasTaken, buffer_in}
 use Rattle.link_run.specs.LaneRuns.{HasRunLane, Pair, settings}
 
 last_of-push : (xs : List (List Bool)) (d x : List Bool) → last_of d (xs ++ x ∷ []) ≡ x
@@ -24,11 +23,7 @@ unfolding last_of
 last_of-push [] d x = refl
 last_of-push (y ∷ ys) d x = last_of-push ys y x
 
-last-word : (ws : List ℕ) (w : ℕ) → last_of [] (map (bits 10) (ws ++ w ∷ [])) ≡ bits 10 w
-last-word ws w = ap (last_of []) (map-append (bits 10) ws (w ∷ []))
-    ∙ last_of-push (map (bits 10) ws) [] (bits 10 w)
-
-by-hunt : (hunt : Bool) (now : Receiver) (p : Params) (t : Timing) (lane : ℕ)
+by-hunt : (hunt : Bool) (now : RxLane) (p : Params) (t : Timing) (lane : ℕ)
     (begun longer : List Taken) (gave : ℕ) → (hunt ≡ true → HasTaken now p t lane begun 0)
     → (hunt ≡ false → HasTaken now p t lane longer gave)
     → HasTaken now p t lane (if hunt then begun else longer) (if hunt then 0 else gave)
@@ -36,35 +31,35 @@ by-hunt true now p t lane begun longer gave begins goes_on = begins refl
 by-hunt false now p t lane begun longer gave begins goes_on = goes_on refl
 
 -- what the parts of a lane do in a tick: w is sent, r is received
-pub record HasTicked (new : Pair) (s : Plan) (lane : ℕ) (x : LaneRun) (order : TxOrder) (octet : ℕ)
-    (told : RxOrder) (w r : ℕ) : Type 0 where
-  pub narrow : width s.link.params ≡ 10
-  pub sends : sent_words s.link.params lane (handed_with x order octet)
-      ≡ sent_words s.link.params lane x.handed ++ w ∷ []
-  pub sent : HasSent new.tx s.link.params lane (handed_with x order octet)
+pub record HasTicked (new : Pair) (s : Plan) (lane : ℕ) (x : LaneRun) (order : TxOrder)
+    (octets : ℕ) (told : RxOrder) (w r : ℕ) : Type 0 where
+  pub sends : (kind_of s.link.params).sends s.link.params lane (handed_with x order octets)
+      ≡ (kind_of s.link.params).sends s.link.params lane x.handed
+      ++ bits (width s.link.params) w ∷ []
+  pub sent : HasSent new.tx s.link.params lane (handed_with x order octets)
   pub answer : bits (width s.link.params) r ≡ line_word (width s.link.params)
       (x.sent ++ bits (width s.link.params) w) (settings s lane x).flips x.delay x.dead
   pub carried : HasCarried new.line (settings s lane x) (x.sent ++ bits (width s.link.params) w)
   pub goes_on : told.hunt ≡ false
       → HasTaken new.rx s.link.params s.link.timing lane
-      (x.taken ++ (record { order = told; word = bits 10 r }) ∷ []) x.gave
+      (x.taken ++ (record { order = told; word = bits (width s.link.params) r }) ∷ []) x.gave
   pub begins : told.hunt ≡ true
       → HasTaken new.rx s.link.params s.link.timing lane
-      ((record { order = told; word = bits 10 r }) ∷ []) 0
-  pub same_depth : new.rx.buffer.depth ≡ depth s.link.params s.link.timing
+      ((record { order = told; word = bits (width s.link.params) r }) ∷ []) 0
+  pub same_depth : (buffer_in new.rx).depth ≡ depth s.link.params s.link.timing
 
-pub lane-ticks : (new : Pair) (s : Plan) (lane : ℕ) (x : LaneRun) (order : TxOrder) (octet : ℕ)
+pub lane-ticks : (new : Pair) (s : Plan) (lane : ℕ) (x : LaneRun) (order : TxOrder) (octets : ℕ)
     (told : RxOrder) (w r : ℕ)
-    → HasTicked new s lane x order octet told w r
-    → HasRunLane new s lane (stepped s lane x order octet told)
-lane-ticks new s lane x order octet told w r t =
-    let sends : bits_with s lane x order octet ≡ bits 10 w =
-    ap (λ ws. last_of [] (map (bits 10) ws)) t.sends
-    ∙ last-word (sent_words s.link.params lane x.handed) w in
-    let same : bits (width s.link.params) w ≡ bits_with s lane x order octet =
-    ap (λ n. bits n w) t.narrow ∙ sym sends in
-    let word : bits 10 r ≡ word_with s lane x order octet =
-    ap (λ n. bits n r) (sym t.narrow) ∙ t.answer
+    → HasTicked new s lane x order octets told w r
+    → HasRunLane new s lane (stepped (kind_of s.link.params) s lane x order octets told)
+lane-ticks new s lane x order octets told w r t =
+    let k = kind_of s.link.params in
+    let sends : bits_with k s lane x order octets ≡ bits (width s.link.params) w =
+    ap (last_of []) t.sends
+    ∙ last_of-push (k.sends s.link.params lane x.handed) [] (bits (width s.link.params) w) in
+    let same : bits (width s.link.params) w ≡ bits_with k s lane x order octets = sym sends in
+    let word : bits (width s.link.params) r ≡ word_with k s lane x order octets =
+    t.answer
     ∙ ap (λ bs. line_word (width s.link.params) (x.sent ++ bs) (settings s lane x).flips x.delay
     x.dead) same in
     record {

@@ -1,24 +1,32 @@
 -- The rows of a tick, kind by kind, and what they add to the counts.
-use Rattle.std.proofs.Common.{◌≡◌, ℕ, ◌+◌, ◌-◌, Bool, true, false, if◌then◌else◌, List, [], ◌∷◌, ◌++◌, length, map, take, slice_get, Option, Some, None, refl, sym, ap, ap₂, ◌∙◌, append_assoc, length-append, arith, count_by}
-use Rattle.std.proofs.lemmas.List.{map-append, take_more}
+use Rattle.std.proofs.Common.{◌≡◌, ℕ, suc, ◌+◌, ◌-◌, ◌*◌, ◌≤◌, Bool, true, false, if◌then◌else◌, List, [], ◌∷◌, ◌++◌, length, map, take, filter, get_or, slice_get, Option, Some, None, refl, sym, ap, ap₂, ◌∙◌, append_assoc, append-nil, length-append, arith, count_by}
+use Rattle.std.proofs.lemmas.List.{length-map, map-append, map_push, take_more}
+use Rattle.std.proofs.lemmas.List.Elements.{filter-append}
+use Rattle.std.proofs.lemmas.List.Sums.{count_by-le-length, fold-append, length-filter}
+use Rattle.std.proofs.lemmas.Simd.{map-map}
 use Rattle.std.proofs.lemmas.Option.{get_or_from_slice_get, slice_get_within}
 use Rattle.link_params.specs.declared.alarms.Alarm.{Alarm}
 use Rattle.link_params.specs.declared.alarms.Device.TheVariants.{Tx, Rx}
 use Rattle.link_params.specs.declared.cells.Mark.{Mark}
+use Rattle.link_params.specs.declared.fields.Params.{Params}
+use Rattle.link_params.specs.Laws.{is_b}
+use Rattle.link_params.specs.Numbers.{octets_per_tick}
 use Rattle.scenario.specs.declared.report_row.Row.TheVariants as row
 use Rattle.scenario.specs.declared.report_row.Totals.{Totals}
-use Rattle.scenario.specs.Plans.{Plan, source_frame}
+use Rattle.scenario.specs.Plans.{Plan, numbers_from, source_frame}
 use Rattle.link_run.specs.declared.ticked.Ticked.{Ticked}
-use Rattle.link_model.proofs.NextMoment.{next}
+use Rattle.link_model.proofs.NextMoment.{entered-next}
+use Rattle.link_model.proofs.NumberLists.{length-numbers, map-numbers, map-shift, numbers-more}
 use Rattle.link_model.proofs.RowHistory.{fullest-more, rows-more, totals-more}
 use Rattle.link_model.specs.Edges.{off}
+use Rattle.link_model.specs.Kinds.{kind_of, moment_of}
 use Rattle.link_model.specs.Moments.{Delivered, History}
 use Rattle.link_model.specs.Report.{Printed, alarms_from, bare, bares, decision_rows, enter_rows, frame_row, is_bad, is_fixed, is_ok, marks, off_alarm, off_alarms, prints_all, prints_frames, rows_of_tick, totals}
-use Rattle.link_model.specs.Sends.{frames_before}
-use Rattle.link_run.specs.LinkStates.{delivered_of}
-use Rattle.link_run.specs.Printing.{one_if}
+use Rattle.link_model.specs.Sends.{begins_frame, frames_before}
+use Rattle.link_run.specs.Gathered.{Whole, delivered_of, no_frame}
+use Rattle.link_run.specs.Printing.{counted_mark, one_if}
 use Rattle.link_run.specs.Reported.{IsSeen, rows_so_far}
-use Rattle.link_run.specs.TickCounts.{entry_rows, marks_of, with_alarms, with_marks}
+use Rattle.link_run.specs.TickCounts.{entered_at, with_alarms, with_marks}
 
 -- the rows of some alarms
 abbrev pub alarm_rows : ℕ → List Alarm → List Printed
@@ -41,83 +49,275 @@ alarm-rows-more alarms rows t i a is =
     ∙ ap (λ (xs : List Printed). rows ++ xs) (alarm-rows-append t (take i alarms) (a ∷ []))
     ∙ sym (append_assoc rows (alarm_rows t (take i alarms)) (bare (row.Alarm t a) ∷ []))
 
-entry-rows : (begins : Bool) (s : Plan) (n t : ℕ) (entered : List ℕ)
-    → (begins ≡ true → entered ≡ source_frame s n)
-    → enter_rows s n (if begins then t ∷ [] else []) ≡ entry_rows begins t entered
-unfolding enter_rows
-entry-rows true s n t entered words = rw (words refl) refl
-entry-rows false s n t entered words = refl
+-- a row more, where these rows are printed
+shown-more : (shown : Bool) (rows old : List Printed) (x : Printed)
+    → rows ++ (if shown then old ++ x ∷ [] else []) ≡ (rows ++ (if shown then old else []))
+    ++ (if shown then x ∷ [] else [])
+shown-more true rows old x = sym (append_assoc rows old (x ∷ []))
+shown-more false rows old x = sym (append-nil (rows ++ []))
 
--- the rows of a tick, as they are added
-unfoldable pub seen_rows : Ticked → List ℕ → List Alarm → List ℕ → Plan → ℕ → ℕ → List Printed
+pub shown-none : (shown : Bool) (rows : List Printed)
+    → rows ++ (if shown then [] else []) ≡ rows
+shown-none true rows = append-nil rows
+shown-none false rows = append-nil rows
+
+-- ---- the frames that begin
+
+-- the octet times of those of the first n octets of a tick that begin a frame
+abbrev pub entered_first : Params → ℕ → ℕ → ℕ → List ℕ
+entered_first p t place n = map (λ j. octets_per_tick p * t + j)
+    (filter (begins_frame p place) (numbers_from 0 n))
+
+firsts : (p : Params) (place n : ℕ) → filter (begins_frame p place) (numbers_from 0 (n + 1))
+    ≡ filter (begins_frame p place) (numbers_from 0 n)
+    ++ (if begins_frame p place n then n ∷ [] else [])
+firsts p place n =
+    let begins = begins_frame p place in
+    let more : n + 1 ≡ suc n = omega arith in
+    let last : 0 + n ≡ n = omega arith in
+    ap (λ (k : ℕ). filter begins (numbers_from 0 k)) more
+    ∙ ap (filter begins) (numbers-more n 0 ∙ ap (λ (k : ℕ). numbers_from 0 n ++ k ∷ []) last)
+    ∙ filter-append begins (numbers_from 0 n) (n ∷ [])
+
+pub entered-begins : (p : Params) (t place n : ℕ) → begins_frame p place n ≡ true
+    → entered_first p t place (n + 1)
+    ≡ entered_first p t place n ++ (octets_per_tick p * t + n) ∷ []
+entered-begins p t place n is =
+    let at : ℕ → ℕ = λ j. octets_per_tick p * t + j in
+    let old : List ℕ = filter (begins_frame p place) (numbers_from 0 n) in
+    ap (map at) (firsts p place n
+    ∙ ap (λ (b : Bool). old ++ (if b then n ∷ [] else [])) is)
+    ∙ map_push at old n
+
+pub entered-not : (p : Params) (t place n : ℕ) → begins_frame p place n ≡ false
+    → entered_first p t place (n + 1) ≡ entered_first p t place n
+entered-not p t place n is =
+    let old : List ℕ = filter (begins_frame p place) (numbers_from 0 n) in
+    ap (map (λ j. octets_per_tick p * t + j)) (firsts p place n
+    ∙ ap (λ (b : Bool). old ++ (if b then n ∷ [] else [])) is ∙ append-nil old)
+
+pub few-entered : (p : Params) (t place n : ℕ) → length (entered_first p t place n) ≤ n
+few-entered p t place n =
+    let begins = begins_frame p place in
+    let of = length-map (filter begins (numbers_from 0 n)) (λ j. octets_per_tick p * t + j) in
+    let all = length-filter begins (numbers_from 0 n) in
+    let few = count_by-le-length begins (numbers_from 0 n) in
+    let long = length-numbers n 0 in
+    omega arith
+
+few-octets : (b : Bool) → (if b then 1 else 8) ≤ 8
+few-octets true = omega arith
+few-octets false = omega arith
+
+pub few-entered-at : (p : Params) (t : ℕ) (place : Option ℕ) → length (entered_at p t place) ≤ 8
+few-entered-at p t None = omega arith
+few-entered-at p t (Some place) =
+    let few = few-entered p t place (octets_per_tick p) in
+    let octets = few-octets (is_b p.mode) in
+    omega arith
+
+enter-rows-more : (os : List ℕ) (s : Plan) (n o : ℕ)
+    → enter_rows s n (os ++ o ∷ []) ≡ enter_rows s n os
+    ++ (record { row = row.Enter o; words = source_frame s (n + length os) }) ∷ []
+unfolding enter_rows
+enter-rows-more [] s n o =
+    let same : n ≡ n + 0 = omega arith in
+    ap (λ (k : ℕ). let x : Printed =
+    record { row = row.Enter o; words = source_frame s k } in x ∷ [])
+    same
+enter-rows-more (a ∷ os) s n o =
+    let same : suc n + length os ≡ n + suc (length os) = omega arith in
+    let first : Printed = record { row = row.Enter a; words = source_frame s n } in
+    ap (λ (xs : List Printed). first ∷ xs) (enter-rows-more os s (suc n) o
+    ∙ ap (λ (k : ℕ). let x : Printed = record { row = row.Enter o; words = source_frame s k } in
+    enter_rows s (suc n) os ++ x ∷ []) same)
+
+-- the row of a frame that begins with octet j
+pub entries-shown : (s : Plan) (p : Params) (rows : List Printed) (t place j n time number : ℕ)
+    → begins_frame p place j ≡ true → time ≡ octets_per_tick p * t + j
+    → number ≡ n + length (entered_first p t place j)
+    → rows ++ (if prints_all s.print then enter_rows s n (entered_first p t place (j + 1)) else [])
+    ≡ (rows ++ (if prints_all s.print then enter_rows s n (entered_first p t place j) else []))
+    ++ (if prints_all s.print then (record { row = row.Enter time; words = source_frame s number })
+    ∷ [] else [])
+entries-shown s p rows t place j n time number begins at count =
+    let old : List ℕ = entered_first p t place j in
+    ap (λ (xs : List Printed). rows ++ (if prints_all s.print then xs else []))
+    (ap (enter_rows s n) (entered-begins p t place j begins)
+    ∙ enter-rows-more old s n (octets_per_tick p * t + j)
+    ∙ ap₂ (λ (o k : ℕ). let x : Printed = record { row = row.Enter o; words = source_frame s k } in
+    enter_rows s n old ++ x ∷ []) (sym at) (sym count))
+    ∙ shown-more (prints_all s.print) rows (enter_rows s n old)
+    (record { row = row.Enter time; words = source_frame s number })
+
+-- ---- the frames that leave
+
+-- frame i of those that leave
+abbrev pub leaving : Params → ℕ → List Whole → ℕ → ℕ → Delivered
+leaving p end frames begun i = record {
+  left = end + i * p.f - (begun + length frames * p.f);
+  mark = (get_or frames i no_frame).mark;
+  words = (get_or frames i no_frame).words;
+}
+
+-- the rows of the first n of them
+abbrev pub leaving_rows : Params → ℕ → List Whole → ℕ → ℕ → List Printed
+leaving_rows p end frames begun n =
+    map frame_row (map (leaving p end frames begun) (numbers_from 0 n))
+
+leaving-more : (p : Params) (end : ℕ) (frames : List Whole) (begun n : ℕ)
+    → leaving_rows p end frames begun (n + 1) ≡ leaving_rows p end frames begun n
+    ++ frame_row (leaving p end frames begun n) ∷ []
+leaving-more p end frames begun n =
+    let f = leaving p end frames begun in
+    let more : n + 1 ≡ suc n = omega arith in
+    let last : 0 + n ≡ n = omega arith in
+    ap (λ (k : ℕ). map frame_row (map f (numbers_from 0 k))) more
+    ∙ ap (λ (xs : List ℕ). map frame_row (map f xs))
+    (numbers-more n 0 ∙ ap (λ (k : ℕ). numbers_from 0 n ++ k ∷ []) last)
+    ∙ ap (map frame_row) (map_push f (numbers_from 0 n) n)
+    ∙ map_push frame_row (map f (numbers_from 0 n)) (f n)
+
+count-more : (test : Mark → Bool) (ms : List Mark) (m : Mark)
+    → count_by test (ms ++ m ∷ []) ≡ count_by test ms + one_if (test m)
+count-more test ms m =
+    fold-append (λ (k : ℕ) (x : Mark). k + (if test x then 1 else 0)) 0 ms (m ∷ [])
+
+-- one of their marks more
+pub marks-counted : (n : Totals) (ms : List Mark) (m : Mark)
+    → with_marks n (ms ++ m ∷ []) ≡ counted_mark (with_marks n ms) m
+marks-counted n ms m =
+    let long : n.delivered + length (ms ++ m ∷ []) ≡ n.delivered + length ms + 1 =
+    (let more = length-append ms (m ∷ []) in omega arith) in
+    let ok : n.ok + count_by is_ok (ms ++ m ∷ []) ≡ n.ok + count_by is_ok ms + one_if (is_ok m) =
+    (let more = count-more is_ok ms m in omega arith) in
+    let fixed : n.fixed + count_by is_fixed (ms ++ m ∷ [])
+    ≡ n.fixed + count_by is_fixed ms + one_if (is_fixed m) =
+    (let more = count-more is_fixed ms m in omega arith) in
+    let bad : n.bad + count_by is_bad (ms ++ m ∷ [])
+    ≡ n.bad + count_by is_bad ms + one_if (is_bad m) =
+    (let more = count-more is_bad ms m in omega arith) in
+    rw (long, ok, fixed, bad) refl
+
+each-is : {A B : Type 0} (g : A → B) (xs : List A) (d : A)
+    → map (λ i. g (get_or xs i d)) (numbers_from 0 (length xs)) ≡ map g xs
+unfolding numbers_from
+each-is g [] d = refl
+each-is {A} {B} g (x ∷ xs) d =
+    let from : 1 ≡ 1 + 0 = omega arith in
+    ap (λ (ys : List B). g x ∷ ys)
+    (ap (λ (k : ℕ). map (λ i. g (get_or (x ∷ xs) i d)) (numbers_from k (length xs))) from
+    ∙ map-shift (λ i. g (get_or (x ∷ xs) i d)) (length xs) 0 1
+    ∙ map-numbers (λ j. g (get_or (x ∷ xs) (1 + j) d)) (λ j. g (get_or xs j d)) (length xs) 0
+    (λ j below. let next : 1 + j ≡ suc j = omega arith in
+    ap (λ (k : ℕ). g (get_or (x ∷ xs) k d)) next)
+    ∙ each-is g xs d)
+
+pub none-counted : (n : Totals) → n ≡ with_marks n []
+none-counted n =
+    let delivered : n.delivered + 0 ≡ n.delivered = omega arith in
+    let ok : n.ok + 0 ≡ n.ok = omega arith in
+    let fixed : n.fixed + 0 ≡ n.fixed = omega arith in
+    let bad : n.bad + 0 ≡ n.bad = omega arith in
+    sym (rw (delivered, ok, fixed, bad) refl)
+
+-- the row of frame i of those that leave
+pub leaving-shown : (shown : Bool) (rows : List Printed) (p : Params) (end : ℕ)
+    (frames : List Whole) (begun i time : ℕ) (frame : Whole)
+    → time ≡ end + i * p.f - (begun + length frames * p.f) → frame ≡ get_or frames i no_frame
+    → rows ++ (if shown then leaving_rows p end frames begun (i + 1) else [])
+    ≡ (rows ++ (if shown then leaving_rows p end frames begun i else []))
+    ++ (if shown then (record { row = row.Frame time frame.mark; words = frame.words }) ∷ []
+    else [])
+leaving-shown shown rows p end frames begun i time frame left is =
+    let old : List Printed = leaving_rows p end frames begun i in
+    ap (λ (xs : List Printed). rows ++ (if shown then xs else []))
+    (leaving-more p end frames begun i
+    ∙ ap₂ (λ (at : ℕ) (f : Whole). let x : Printed =
+    record { row = row.Frame at f.mark; words = f.words } in old ++ x ∷ []) (sym left) (sym is))
+    ∙ shown-more shown rows old (record { row = row.Frame time frame.mark; words = frame.words })
+
+-- ---- a tick
+
+-- the rows of a tick, as they are added; n: how many frames began before it
+unfoldable pub seen_rows : Ticked → List Alarm → List Whole → ℕ → Plan → ℕ → ℕ → ℕ → List Printed
     → List Printed
-seen_rows x entered alarms delivered s t left rows =
+seen_rows x alarms frames begun s t end n rows =
     ((((((rows ++ bares (if x.rx_reset then row.Hunt t ∷ [] else []))
     ++ alarm_rows t (off_alarm Tx x.tx_off))
     ++ alarm_rows t (off_alarm Rx x.rx_off))
-    ++ (if prints_all s.print then entry_rows x.begins t entered else []))
+    ++ (if prints_all s.print then enter_rows s n (entered_at s.link.params t x.place) else []))
     ++ alarm_rows t alarms)
     ++ bares (decision_rows t x.decision))
-    ++ (if prints_frames s.print then map frame_row (delivered_of x.mark left delivered) else [])
+    ++ (if prints_frames s.print then map frame_row (delivered_of s.link.params end frames begun)
+    else [])
 
 in-a-row : (a b c d e f g r : List Printed) → ((((((r ++ a) ++ b) ++ c) ++ d) ++ e) ++ f) ++ g ≡ r
     ++ (a ++ ((b ++ c) ++ (d ++ (e ++ (f ++ g)))))
 in-a-row a b c d e f g r = grind (arith, append_assoc)
 
-tick-rows : (x : Ticked) (entered : List ℕ) (alarms : List Alarm) (delivered : List ℕ) (s : Plan)
+-- the octet times at which frames began
+entered-seen : (x : Ticked) (alarms : List Alarm) (frames : List Whole) (begun : ℕ) (s : Plan)
+    (h : History)
+    → IsSeen x alarms frames begun s h
+    → (moment_of s h).entered ≡ entered_at s.link.params (length h) x.place
+entered-seen x alarms frames begun s h seen =
+    entered-next (kind_of s.link.params) s h
+    ∙ ap (entered_at s.link.params (length h)) (sym seen.place)
+
+tick-rows : (x : Ticked) (alarms : List Alarm) (frames : List Whole) (begun : ℕ) (s : Plan)
     (h : History) (rows : List Printed)
-    → IsSeen x entered alarms delivered s h
-    → seen_rows x entered alarms delivered s (length h) (length h + 1 - s.link.params.f) rows ≡ rows
-    ++ rows_of_tick s (length h) (frames_before h) (next s h)
+    → IsSeen x alarms frames begun s h
+    → seen_rows x alarms frames begun s (length h) (octets_per_tick s.link.params * (length h + 1))
+    (frames_before h) rows
+    ≡ rows ++ rows_of_tick s (length h) (frames_before h) (moment_of s h)
 unfolding seen_rows rows_of_tick off_alarms
-tick-rows x entered alarms delivered s h rows seen =
-    let entry = entry-rows x.begins s (frames_before h) (length h) entered seen.entered_words in
+tick-rows x alarms frames begun s h rows seen =
     rw (
       ← seen.rx_reset,
       ← seen.tx_off,
       ← seen.rx_off,
-      seen.begins,
-      entry,
+      entered-seen x alarms frames begun s h seen,
       ← seen.alarms_are,
       ← seen.decision,
       seen.delivered_is,
       alarm-rows-append (length h) (off_alarm Tx x.tx_off) (off_alarm Rx x.rx_off),
     ) (in-a-row _ _ _ _ _ _ _ rows)
 
-pub seen-rows : (x : Ticked) (entered : List ℕ) (alarms : List Alarm) (delivered : List ℕ)
-    (s : Plan) (h : History) (t left : ℕ)
-    → IsSeen x entered alarms delivered s h → t ≡ length h → left ≡ t + 1 - s.link.params.f
-    → seen_rows x entered alarms delivered s t left (rows_so_far s h) ≡ rows_so_far s
-    (h ++ next s h ∷ [])
-seen-rows x entered alarms delivered s h t left seen at gone =
-    ap₂ (λ (a b : ℕ). seen_rows x entered alarms delivered s a b (rows_so_far s h)) at (gone
-    ∙ ap (λ (a : ℕ). a + 1 - s.link.params.f) at)
-    ∙ tick-rows x entered alarms delivered s h (rows_so_far s h) seen
+pub seen-rows : (x : Ticked) (alarms : List Alarm) (frames : List Whole) (begun : ℕ) (s : Plan)
+    (h : History) (t end n : ℕ)
+    → IsSeen x alarms frames begun s h → t ≡ length h
+    → end ≡ octets_per_tick s.link.params * (t + 1) → n ≡ frames_before h
+    → seen_rows x alarms frames begun s t end n (rows_so_far s h)
+    ≡ rows_so_far s (h ++ moment_of s h ∷ [])
+seen-rows x alarms frames begun s h t end n seen at past before =
+    ap₂ (λ (a b : ℕ). seen_rows x alarms frames begun s a b n (rows_so_far s h)) at (past
+    ∙ ap (λ (a : ℕ). octets_per_tick s.link.params * (a + 1)) at)
+    ∙ ap (λ (k : ℕ). seen_rows x alarms frames begun s (length h)
+    (octets_per_tick s.link.params * (length h + 1)) k (rows_so_far s h)) before
+    ∙ tick-rows x alarms frames begun s h (rows_so_far s h) seen
     ∙ ap (λ (l : List Printed). bare row.Link ∷ bare (row.Hunt 0) ∷ l)
-    (sym (rows-more s h (next s h)))
+    (sym (rows-more s h (moment_of s h)))
 
 -- the counts, as they are added
-unfoldable pub seen_counts : Ticked → List Alarm → Totals → Totals
-seen_counts x alarms n =
+unfoldable pub seen_counts : Ticked → List Alarm → List Whole → Params → ℕ → Totals → Totals
+seen_counts x alarms frames p t n =
     let offs = with_alarms (with_alarms n (length (off_alarm Tx x.tx_off)))
     (length (off_alarm Rx x.rx_off)) in
-    let begun : Totals = record offs { entered = offs.entered + one_if x.begins } in
-    let left = with_marks (with_alarms begun (length alarms)) (marks_of x.mark) in
+    let begun : Totals = record offs {
+      entered = offs.entered + length (entered_at p t x.place);
+    } in
+    let marks = map (λ (f : Whole). f.mark) frames in
+    let left = with_marks (with_alarms begun (length alarms)) marks in
     record left { ticks = left.ticks + 1; fullest = x.fullest }
 
-marks-of : (mark : Option Mark) (left : ℕ) (words : List ℕ)
-    → map (λ (d : Delivered). d.mark) (delivered_of mark left words) ≡ marks_of mark
-marks-of None left words = refl
-marks-of (Some m) left words = refl
-
-length-marks-of : (mark : Option Mark) (left : ℕ) (words : List ℕ)
-    → length (delivered_of mark left words) ≡ length (marks_of mark)
-length-marks-of None left words = refl
-length-marks-of (Some m) left words = refl
-
-length-begun : (begins : Bool) (t : ℕ) → length (if begins then t ∷ [] else []) ≡ one_if begins
-length-begun true t = refl
-length-begun false t = refl
+marks-of : (p : Params) (end : ℕ) (frames : List Whole) (begun : ℕ)
+    → map (λ (d : Delivered). d.mark) (delivered_of p end frames begun)
+    ≡ map (λ (f : Whole). f.mark) frames
+marks-of p end frames begun =
+    map-map (λ (d : Delivered). d.mark) (leaving p end frames begun)
+    (numbers_from 0 (length frames))
+    ∙ each-is (λ (f : Whole). f.mark) frames no_frame
 
 offs-of : (s : Plan) (t : ℕ) (tx rx : Option ℕ) → tx ≡ off s Tx t → rx ≡ off s Rx t
     → length (off_alarms s t) ≡ length (off_alarm Tx tx) + length (off_alarm Rx rx)
@@ -125,44 +325,47 @@ unfolding off_alarms
 offs-of s t tx rx is_tx is_rx =
     rw (is_tx, is_rx) (length-append (off_alarm Tx (off s Tx t)) (off_alarm Rx (off s Rx t)))
 
-counted : (x : Ticked) (alarms : List Alarm) (s : Plan) (h : History)
-    → seen_counts x alarms (totals s h) ≡ record {
+counted : (x : Ticked) (alarms : List Alarm) (frames : List Whole) (p : Params) (s : Plan)
+    (h : History)
+    → seen_counts x alarms frames p (length h) (totals s h) ≡ record {
       ticks = length h + 1;
-      entered = frames_before h + one_if x.begins;
-      delivered = length (marks h) + length (marks_of x.mark);
-      ok = count_by is_ok (marks h) + count_by is_ok (marks_of x.mark);
-      fixed = count_by is_fixed (marks h) + count_by is_fixed (marks_of x.mark);
-      bad = count_by is_bad (marks h) + count_by is_bad (marks_of x.mark);
+      entered = frames_before h + length (entered_at p (length h) x.place);
+      delivered = length (marks h) + length (map (λ (f : Whole). f.mark) frames);
+      ok = count_by is_ok (marks h) + count_by is_ok (map (λ (f : Whole). f.mark) frames);
+      fixed = count_by is_fixed (marks h) + count_by is_fixed (map (λ (f : Whole). f.mark) frames);
+      bad = count_by is_bad (marks h) + count_by is_bad (map (λ (f : Whole). f.mark) frames);
       alarms =
           alarms_from s 0 h + (length (off_alarm Tx x.tx_off) + length (off_alarm Rx x.rx_off)
           + length alarms);
       fullest = x.fullest;
     }
 unfolding seen_counts totals
-counted x alarms s h =
+counted x alarms frames p s h =
     let a = alarms_from s 0 h in
     let tx = length (off_alarm Tx x.tx_off) in
     let rx = length (off_alarm Rx x.rx_off) in
     let all : a + tx + rx + length alarms ≡ a + (tx + rx + length alarms) = omega arith in
     rw (sym all) refl
 
-pub seen-counts : (x : Ticked) (entered : List ℕ) (alarms : List Alarm) (delivered : List ℕ)
-    (s : Plan) (h : History)
-    → IsSeen x entered alarms delivered s h
-    → seen_counts x alarms (totals s h) ≡ totals s (h ++ next s h ∷ [])
-seen-counts x entered alarms delivered s h seen =
-    let m = next s h in
-    let left = length h + 1 - s.link.params.f in
-    let begun : length m.entered ≡ one_if x.begins = ap length seen.begins
-    ∙ length-begun x.begins (length h) in
-    let gone : length m.delivered ≡ length (marks_of x.mark) = ap length seen.delivered_is
-    ∙ length-marks-of x.mark left delivered in
-    let same_marks : map (λ (d : Delivered). d.mark) m.delivered ≡ marks_of x.mark =
-    ap (map (λ (d : Delivered). d.mark)) seen.delivered_is ∙ marks-of x.mark left delivered in
+pub seen-counts : (x : Ticked) (alarms : List Alarm) (frames : List Whole) (begun : ℕ) (s : Plan)
+    (h : History) (t : ℕ)
+    → IsSeen x alarms frames begun s h → t ≡ length h
+    → seen_counts x alarms frames s.link.params t (totals s h) ≡ totals s (h ++ moment_of s h ∷ [])
+seen-counts x alarms frames begun s h t seen at =
+    let m = moment_of s h in
+    let p = s.link.params in
+    let ms : List Mark = map (λ (f : Whole). f.mark) frames in
+    let began : length m.entered ≡ length (entered_at p (length h) x.place) =
+    ap length (entered-seen x alarms frames begun s h seen) in
+    let same_marks : map (λ (d : Delivered). d.mark) m.delivered ≡ ms =
+    ap (map (λ (d : Delivered). d.mark)) seen.delivered_is ∙ marks-of p _ frames begun in
+    let gone : length m.delivered ≡ length ms =
+    sym (length-map m.delivered (λ (d : Delivered). d.mark)) ∙ ap length same_marks in
     let full = seen.fullest ∙ fullest-more h m in
     let offs : length (off_alarms s (length h)) ≡ length (off_alarm Tx x.tx_off) + length
     (off_alarm Rx x.rx_off) =
     offs-of s (length h) x.tx_off x.rx_off seen.tx_off seen.rx_off in
     let raised = ap length seen.alarms_are in
-    counted x alarms s h ∙ rw (totals-more s h m, begun, gone, same_marks, ← full, offs, ← raised)
-    refl
+    ap (λ (k : ℕ). seen_counts x alarms frames p k (totals s h)) at
+    ∙ counted x alarms frames p s h
+    ∙ rw (totals-more s h m, began, gone, same_marks, ← full, offs, ← raised) refl

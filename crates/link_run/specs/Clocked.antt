@@ -1,4 +1,5 @@
 -- What the clock of a device keeps of a run.
+-- Code: the next edge, and a phase.
 use Rattle.std.specs.Prelude.{◌≡◌, ◌≤◌, ◌<◌, ℕ}
 use Rattle.link_params.specs.declared.alarms.Device.{Device}
 use Rattle.link_params.specs.Links.{Link}

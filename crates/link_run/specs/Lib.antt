@@ -1,6 +1,8 @@
 pub mod Clocked
 pub mod Seen
+pub mod Alignments
 pub mod Sendings
+pub mod LaneEnds
 pub mod LaneRuns
 pub mod Gathered
 pub mod Printing

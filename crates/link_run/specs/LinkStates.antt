@@ -1,27 +1,25 @@
 -- What both ends of a link and the lanes between them keep of a run.
-use Rattle.std.specs.Prelude.{◌≡◌, ℕ, ◌+◌, ◌-◌, if◌then◌else◌, List, [], ◌∷◌, ◌++◌, length, Option, Some, None}
+-- Code: both ends, a list of lanes, and one frame.
+use Rattle.std.specs.Prelude.{◌≡◌, ◌<◌, ◌≤◌, ℕ, ◌+◌, ◌*◌, true, if◌then◌else◌, List, [], ◌∷◌, ◌++◌, All, length, Option, None}
 use Rattle.link_params.specs.declared.alarms.Device.TheVariants.{Tx, Rx}
 use Rattle.link_params.specs.declared.cells.LaneCell.{LaneCell}
-use Rattle.link_params.specs.declared.cells.Mark.{Mark}
 use Rattle.link_params.specs.declared.orders.RxOrder.{RxOrder}
 use Rattle.link_params.specs.declared.orders.TxOrder.{TxOrder}
+use Rattle.link_params.specs.Laws.{is_b}
 use Rattle.link_params.specs.Links.{Link}
-use Rattle.lane_b.specs.Received.{lanes_b}
-use Rattle.lane_b.specs.Senders.{Follows, next_place}
+use Rattle.link_params.specs.Numbers.{octets_per_tick}
 use Rattle.scenario.specs.Plans.{Plan}
 use Rattle.link_run.specs.declared.happened.Happened.{Happened}
-use Rattle.link_model.specs.Before.{Columns, columns_now, frame_place}
+use Rattle.link_model.specs.Before.{Columns, columns_now}
 use Rattle.link_model.specs.Edges.{is_reset}
+use Rattle.link_model.specs.Kinds.{kind_of, moment_of}
 use Rattle.link_model.specs.LaneRuns.{lane_ready, lane_run, lane_stepped}
-use Rattle.link_model.specs.Moments.{Delivered, History}
-use Rattle.link_model.specs.Run.{moment}
-use Rattle.link_model.specs.Sends.{frames_before}
-use Rattle.link_run.specs.Gathered.{Gathering, HasGathered}
+use Rattle.link_model.specs.Moments.{History}
+use Rattle.link_run.specs.Gathered.{Gathering, HasGathered, Whole, delivered_of}
 use Rattle.link_run.specs.Happened.{are_past}
 use Rattle.link_run.specs.LaneRuns.{AreAt, HaveRun, Pair}
 use Rattle.link_run.specs.ReceiverRuns.{HasReceivedRun, RxEnd}
-use Rattle.link_run.specs.Seen.{HasFed}
-use Rattle.link_run.specs.Sendings.{next_of}
+use Rattle.link_run.specs.Sendings.{Follows, next_after, next_of}
 use Rattle.link_run.specs.Transmitters.{HasSentRun, TxEnd}
 
 -- the link, the place of the next event, both ends, the lanes, what they gave last, and the frame
@@ -35,6 +33,10 @@ pub record LinkView : Type 0 where
   pub given : List (Option LaneCell)
   pub gathering : Gathering
 
+-- the columns of the session of the last tick
+abbrev pub columns_of : Plan → History → Columns
+columns_of s h = columns_now (kind_of s.link.params) s h
+
 -- the ticks of this history are over
 pub record HasRun (now : LinkView) (s : Plan) (h : History) : Type 0 where
   pub same_link : now.link ≡ s.link
@@ -43,7 +45,7 @@ pub record HasRun (now : LinkView) (s : Plan) (h : History) : Type 0 where
   pub rx : HasReceivedRun now.rx s h
   pub lanes : HaveRun now.lanes s (λ lane. lane_run s h lane)
   pub at : AreAt now.lanes s.link.params (next_of s.link.params now.tx.sending)
-  pub gathered : HasGathered now.gathering s.link.params (columns_now s h)
+  pub gathered : HasGathered now.gathering s.link.params (columns_of s h)
   pub given : length now.given ≡ s.link.params.l
 
 -- the events of the tick after this history have happened
@@ -58,45 +60,42 @@ pub record HasHappened (x : Happened) (old now : LinkView) (s : Plan) (h : Histo
 
 -- the columns of the session to which that tick belongs
 abbrev pub columns_left : Plan → History → Columns
-columns_left s h = if (moment lanes_b s h).told.hunt then [] else columns_now s h
+columns_left s h = if (moment_of s h).told.hunt then [] else columns_of s h
 
--- the lanes can send and take that tick: with this order, place in the frame and receiver's order
-pub record CanStep (now : LinkView) (order : TxOrder) (at : Option ℕ) (told : RxOrder) (s : Plan)
+-- the lanes can send and take that tick: with this order, and the receiver's
+pub record CanStep (now : LinkView) (order : TxOrder) (told : RxOrder) (s : Plan)
     (h : History) : Type 0 where
   pub lanes : HaveRun now.lanes s (λ lane. lane_ready s h lane)
   pub next : Option ℕ
   pub at_next : AreAt now.lanes s.link.params next
   pub follows : Follows s.link.params next order
-  pub feed : HasFed now.tx.feed s (frames_before (h ++ moment lanes_b s h ∷ []))
-  pub order_is : order ≡ (moment lanes_b s h).order
-  pub at_is : at ≡ frame_place s.link.params order
-  pub told_is : told ≡ (moment lanes_b s h).told
-  pub gathered : HasGathered now.gathering s.link.params (columns_now s h)
+  pub handed : now.tx.handed ≡ (moment_of s h).handed
+  pub small : is_b s.link.params.mode ≡ true → All (λ v. v < 256) now.tx.handed
+  pub order_is : order ≡ (moment_of s h).order
+  pub told_is : told ≡ (moment_of s h).told
+  pub gathered : HasGathered now.gathering s.link.params (columns_of s h)
 
 -- and each lane has sent and taken it
 pub record HasStepped (order : TxOrder) (old now : LinkView) (s : Plan) (h : History) : Type 0 where
-  pub lanes : HaveRun now.lanes s (λ lane. lane_stepped s h lane)
-  pub at : AreAt now.lanes s.link.params (next_place s.link.params order)
+  pub lanes : HaveRun now.lanes s (λ lane. lane_stepped (kind_of s.link.params) s h lane)
+  pub at : AreAt now.lanes s.link.params (next_after s.link.params order)
   pub gathered : HasGathered now.gathering s.link.params (columns_left s h)
   pub same : now ≡ record old { lanes = now.lanes; gathering = now.gathering }
 
 -- the lanes can give what they give in it
 pub record CanGive (now : LinkView) (s : Plan) (h : History) : Type 0 where
-  pub lanes : HaveRun now.lanes s (λ lane. lane_stepped s h lane)
+  pub lanes : HaveRun now.lanes s (λ lane. lane_stepped (kind_of s.link.params) s h lane)
   pub gathered : HasGathered now.gathering s.link.params (columns_left s h)
-  pub rx : HasReceivedRun now.rx s (h ++ moment lanes_b s h ∷ [])
+  pub rx : HasReceivedRun now.rx s (h ++ moment_of s h ∷ [])
   pub given : length now.given ≡ s.link.params.l
 
--- a frame that was delivered, where there is a mark
-abbrev pub delivered_of : Option Mark → ℕ → List ℕ → List Delivered
-delivered_of None left words = []
-delivered_of (Some m) left words = record { left = left; mark = m; words = words } ∷ []
-
 -- and each lane has given what it gives in it
-pub record HasGiven (mark : Option Mark) (now : LinkView) (s : Plan) (h : History) : Type 0 where
-  pub lanes : HaveRun now.lanes s (λ lane. lane_run s (h ++ moment lanes_b s h ∷ []) lane)
-  pub gathered : HasGathered now.gathering s.link.params
-      (columns_now s (h ++ moment lanes_b s h ∷ []))
-  pub delivered : (moment lanes_b s h).delivered ≡ delivered_of mark
-      (length h + 1 - s.link.params.f) now.gathering.words
+pub record HasGiven (now : LinkView) (s : Plan) (h : History) : Type 0 where
+  pub lanes : HaveRun now.lanes s (λ lane. lane_run s (h ++ moment_of s h ∷ []) lane)
+  pub gathered : HasGathered now.gathering s.link.params (columns_of s (h ++ moment_of s h ∷ []))
+  pub delivered : (moment_of s h).delivered ≡ delivered_of s.link.params
+      (octets_per_tick s.link.params * (length h + 1)) now.gathering.frames now.gathering.at
+  pub words : All (λ (f : Whole). length f.words ≡ s.link.params.m * s.link.params.s)
+      now.gathering.frames
+  pub begun : now.gathering.at ≤ 256
   pub given : length now.given ≡ s.link.params.l

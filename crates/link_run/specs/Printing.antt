@@ -1,14 +1,18 @@
 -- What a report keeps of its rows.
+-- Code: their text, and their counts.
 use Rattle.std.specs.Prelude.{◌≡◌, ◌≤◌, ℕ, ◌+◌, ◌*◌, Bool, if◌then◌else◌, List}
 use Rattle.link_params.specs.declared.cells.Mark.{Mark}
 use Rattle.scenario.specs.declared.report_row.Totals.{Totals}
 use Rattle.scenario.specs.Plans.{Plan}
 use Rattle.link_model.specs.Report.{Printed, is_bad, is_fixed, is_ok, lines}
 
--- the text, the room that there is for a line, and the counts
+-- the text, the line that was made last, the room that there is for a line, how many words a frame
+-- has, and the counts
 pub record Printing : Type 0 where
   pub text : List ℕ
+  pub line : List ℕ
   pub room : ℕ
+  pub size : ℕ
   pub totals : Totals
 
 -- the text is that of these rows, and a line of each row of this plan has room

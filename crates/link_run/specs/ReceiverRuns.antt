@@ -1,4 +1,5 @@
 -- What the receiver of a run keeps of its history.
+-- Code: a clock, a control, and the reports and alarms of the last decision.
 use Rattle.std.specs.Prelude.{◌≡◌, ◌+◌, Bool, if◌then◌else◌, List, [], ◌∷◌, ◌++◌, length}
 use Rattle.link_params.specs.declared.alarms.Alarm.{Alarm}
 use Rattle.link_params.specs.declared.alarms.Device.TheVariants.{Rx}
@@ -6,15 +7,14 @@ use Rattle.link_params.specs.declared.lane_report.LaneReport.{LaneReport}
 use Rattle.bring_up.specs.Controls.{Controller, HasDecided}
 use Rattle.bring_up.specs.Decisions.{decide_at}
 use Rattle.bring_up.specs.declared.stage.Decision.{Decision}
-use Rattle.lane_b.specs.Received.{lanes_b}
 use Rattle.scenario.specs.Plans.{Plan}
 use Rattle.link_run.specs.declared.rx_tick.RxTick.{RxTick}
 use Rattle.link_model.specs.Before.{decisions_before}
 use Rattle.link_model.specs.Edges.{is_reset, off}
 use Rattle.link_model.specs.Hunts.{ends_in_hunt, standing}
+use Rattle.link_model.specs.Kinds.{moment_of}
 use Rattle.link_model.specs.Moments.{History}
 use Rattle.link_model.specs.Receives.{told_of}
-use Rattle.link_model.specs.Run.{moment}
 use Rattle.link_run.specs.Clocked.{Clocking, HasRunTo}
 
 -- its clock, its control, whether a hunt begins with the next tick, the reports of the last
@@ -49,22 +49,22 @@ pub record HasToldTick (now : RxEnd) (s : Plan) (h : History) : Type 0 where
 pub record IsToldTick (tick : RxTick) (now : RxEnd) (s : Plan) (h : History) : Type 0 where
   pub off : tick.off ≡ off s Rx (length h)
   pub told : tick.told ≡ told_of s h
-  pub decides : tick.decides ≡ (moment lanes_b s h).decides
+  pub decides : tick.decides ≡ (moment_of s h).decides
   pub after : HasToldTick now s h
 
 -- a receiver that was told the tick after this history has decided
 pub record Decides (decision : Decision) (old now : RxEnd) (s : Plan) (h : History) : Type 0 where
   pub decision_due : decision
-      ≡ (decide_at s.link.params s.link.timing (standing s h) (moment lanes_b s h).reports).decision
+      ≡ (decide_at s.link.params s.link.timing (standing s h) (moment_of s h).reports).decision
   pub alarms : now.alarms
-      ≡ (decide_at s.link.params s.link.timing (standing s h) (moment lanes_b s h).reports).alarms
+      ≡ (decide_at s.link.params s.link.timing (standing s h) (moment_of s h).reports).alarms
   pub control : HasDecided now.control s.link.params s.link.timing
-      (decisions_left s h ++ (moment lanes_b s h).reports ∷ [])
+      (decisions_left s h ++ (moment_of s h).reports ∷ [])
   pub same_clock : now.clock ≡ old.clock
   pub lanes : length now.reports ≡ s.link.params.l
 
 -- the tick after this history is over for the receiver
 pub record IsEnded (decision : Decision) (now : RxEnd) (s : Plan) (h : History) : Type 0 where
-  pub decision_is : decision ≡ (moment lanes_b s h).decided.decision
-  pub alarms : now.alarms ≡ (moment lanes_b s h).decided.alarms
-  pub stands : HasReceivedRun now s (h ++ moment lanes_b s h ∷ [])
+  pub decision_is : decision ≡ (moment_of s h).decided.decision
+  pub alarms : now.alarms ≡ (moment_of s h).decided.alarms
+  pub stands : HasReceivedRun now s (h ++ moment_of s h ∷ [])

@@ -1,23 +1,20 @@
 -- What the rows of a tick add to the counts.
-use Rattle.std.specs.Prelude.{ℕ, ◌+◌, Bool, if◌then◌else◌, List, [], ◌∷◌, length, count_by, Option, Some, None}
+-- Code: one row at a time.
+use Rattle.std.specs.Prelude.{ℕ, ◌+◌, ◌*◌, List, map, length, count_by, Option}
 use Rattle.link_params.specs.declared.cells.Mark.{Mark}
-use Rattle.scenario.specs.declared.report_row.Row.TheVariants as row
+use Rattle.link_params.specs.declared.fields.Params.{Params}
+use Rattle.link_params.specs.Numbers.{octets_per_tick}
 use Rattle.scenario.specs.declared.report_row.Totals.{Totals}
-use Rattle.link_model.specs.Report.{Printed, is_bad, is_fixed, is_ok}
+use Rattle.link_model.specs.Report.{is_bad, is_fixed, is_ok}
+use Rattle.link_model.specs.Sends.{beginnings}
 
--- the row of the frame that began at this octet time, where one did
-abbrev pub entry_rows : Bool → ℕ → List ℕ → List Printed
-entry_rows begins t words = if begins then (record { row = row.Enter t; words = words })
-    ∷ [] else []
+-- the octet times at which frames begin in tick t, where it carries data at this place
+abbrev pub entered_at : Params → ℕ → Option ℕ → List ℕ
+entered_at p t place = map (λ j. octets_per_tick p * t + j) (beginnings p place)
 
 -- the counts with some alarms more
 abbrev pub with_alarms : Totals → ℕ → Totals
 with_alarms n k = record n { alarms = n.alarms + k }
-
--- the mark of the frame that left, where one did
-abbrev pub marks_of : Option Mark → List Mark
-marks_of None = []
-marks_of (Some m) = m ∷ []
 
 -- the counts with frames of these marks more
 abbrev pub with_marks : Totals → List Mark → Totals

@@ -1,32 +1,38 @@
 //! Frames from the octets that the lanes give.
-ghost use Rattle.std.specs.Prelude.{◌≡◌, ◌-◌, ◌*◌, ◌/◌, ◌++◌, ◌∷◌, [], List, length, map, Some, None, IfOk, IfSome};
+ghost use Rattle.std.specs.Prelude.{◌≡◌, ◌<◌, ◌≤◌, ◌++◌, [], List, length, map, Some, None, IfOk};
 ghost use Rattle.link_params.specs.declared.fields.Params.{Params as ParamsValue};
 ghost use Rattle.link_params.specs.declared.cells.LaneCell.{LaneCell as CellValue};
 ghost use Rattle.link_params.specs.declared.cells.Mark.TheVariants as mark;
-ghost use Rattle.sample_map.specs.Frames.{words_of};
-ghost use Rattle.link_model.specs.Before.{Columns, cells_of, octets_of, whole_mark};
-ghost use Rattle.link_run.specs.Gathered.{HasGathered, IsPutting};
+ghost use Rattle.link_params.specs.Laws.{broken_law};
+ghost use Rattle.link_params.specs.Numbers.{octets_per_tick};
+ghost use Rattle.link_model.specs.Before.{Columns, octet_columns};
+ghost use Rattle.link_run.specs.Gathered.{FramesAre, GathersOn, HasFinished, HasGathered, HasPut, HaveFrameSizes};
 
+use crate::frame::Frame;
 use jesd_base::NoMemory;
 use link_params::{LaneCell, Mark, Shape};
 use sample_map::{Layout, layout_laws};
 use std::alloc::Global;
 use std::marker::Model;
 
-/// A frame that is gathered octet by octet from all lanes. Contracts see it as its parameters, how
-/// many octets of each lane are there, the worst of their marks, the octets, and the words of the
-/// last whole frame.
+/// A frame that is gathered octet by octet from all lanes, and the frames that became whole in the
+/// last tick. Contracts see it as its parameters, how many octets of each lane are there, the worst
+/// of their marks, the octets, and those frames.
 #[derive(Drop)]
 pub struct Deframer {
     shape: Shape,
     layout: Layout,
+    per_tick: u32,
     at: u32,
     mark: Mark,
     octets: Vec<u8>,
-    words: Vec<u32>,
+    // The first `whole` of these became whole in the last tick.
+    whole: usize,
+    frames: Vec<Frame>,
 }
 
 impl Model for Deframer {
+    ghost use Rattle.std.specs.Prelude.{take};
     ghost use Rattle.link_run.specs.Gathered.{Gathering, HasSizes};
 
     ghost Value = { Gathering };
@@ -36,32 +42,32 @@ impl Model for Deframer {
       at = d.at;
       mark = d.mark;
       octets = d.octets.items;
-      words =
-          d.words.items;
+      frames = take d.whole d.frames.items;
     } };
 
-    ghost invariant = { λ d. HasSizes d.shape d.layout d.at d.octets.items d.words.items };
+    ghost invariant = { λ d. HasSizes d.shape d.layout d.per_tick d.at d.octets.items d.whole d.frames.items };
 }
 
 impl Deframer {
     /// A frame of which nothing is there. All its memory is taken here; `NoMemory` where there is
     /// none.
     pub fn open(alloc: Global, shape: &Shape) -> Result<Deframer, NoMemory>
-        ensures { IfOk result (λ d. HasGathered d shape.now []) }
+        ensures begins { IfOk result (λ d. HasGathered d shape.now []) }
+        ensures nothing { IfOk result (λ d. d.frames ≡ []) }
     {
         let size = (shape.lanes() * shape.frame_octets()) as usize;
-        let count = shape.frame_words() as usize;
-        let (Ok(octets), Ok(words)) = (vec![in alloc; 0u8; size], vec![in alloc; 0u32; count])
-        else {
+        let Ok(octets) = vec![in alloc; 0u8; size] else {
             return Err(NoMemory);
         };
         Ok(Deframer {
             shape: *shape,
             layout: Layout::new(shape),
+            per_tick: shape.octets_per_tick(),
             at: 0,
             mark: Mark::Ok,
             octets,
-            words,
+            whole: 0,
+            frames: open_frames(alloc, shape)?,
         })
     }
 
@@ -81,60 +87,115 @@ impl Deframer {
         self.mark = Mark::Ok;
     }
 
-    /// What each lane gave in a tick: an octet of data each, or nothing. The mark of the frame that
-    /// is whole with it.
-    pub fn take(&mut self, given: &[Option<LaneCell>]) -> Option<Mark>
-        requires { length given.now ≡ self.old.params.l }
-        ensures nothing { (lanes : List CellValue) → given.now ≡ map (λ c. None) lanes
-            → (result ≡ None) × (self.new ≡ self.old) }
-        ensures mark { (p : ParamsValue) (columns : Columns) (column : List CellValue)
-            → HasGathered self.old p columns → given.now ≡ map (λ c. Some c) column
-            → result ≡ whole_mark p (columns ++ column ∷ []) }
-        ensures words { (p : ParamsValue) (columns : Columns) (column : List CellValue)
-            → HasGathered self.old p columns → given.now ≡ map (λ c. Some c) column
-            → IfSome result (λ m. self.new.words ≡ words_of p (octets_of (cells_of p (columns ++ column ∷ []) (length (columns ++ column ∷ []) / p.f - 1) p.f))) }
-        ensures goes_on { (p : ParamsValue) (columns : Columns) (column : List CellValue)
-            → HasGathered self.old p columns → given.now ≡ map (λ c. Some c) column
-            → HasGathered self.new p (columns ++ column ∷ []) }
+    /// A tick in which the lanes give nothing.
+    pub fn rest(&mut self)
+        ensures { self.new ≡ record self.old { frames = [] } }
     {
-        let size = self.shape.params().f;
-        // All lanes give, or none does.
-        if given[0].is_none() {
-            return None;
-        }
-        self.put(given);
-        let at = self.at + 1;
-        if at < size {
-            self.at = at;
-            return None;
-        }
-        layout_laws();
-        self.layout.unmap(&self.octets, &mut self.words);
-        let mark = self.mark;
-        self.begin();
-        Some(mark)
+        self.whole = 0;
     }
 
-    // The octet of each lane, at the same place of the frame.
-    fn put(&mut self, given: &[Option<LaneCell>])
+    /// What each lane gave in a tick: a cell each, or, in the alignment sequence, nothing each.
+    pub fn take(&mut self, given: &[Option<LaneCell>])
         requires { length given.now ≡ self.old.params.l }
-        ensures { IsPutting self.old self.new (length given.now) given.now }
+        ensures nothing { (lanes : List CellValue) → given.now ≡ map (λ c. None) lanes
+            → self.new ≡ record self.old { frames = [] } }
+        ensures goes_on { (p : ParamsValue) (columns : Columns) (column : List CellValue)
+            → HasGathered self.old p columns → given.now ≡ map (λ c. Some c) column
+            → HasGathered self.new p (columns ++ octet_columns p column) }
+        ensures frames { (p : ParamsValue) (columns : Columns) (column : List CellValue)
+            → HasGathered self.old p columns → given.now ≡ map (λ c. Some c) column
+            → FramesAre self.new.frames p (length columns) (columns ++ octet_columns p column) }
+        ensures same { self.new.params ≡ self.old.params }
+    {
+        self.whole = 0;
+        // All lanes give, or none does.
+        if given[0].is_some() {
+            for j in 0..self.per_tick {
+                self.take_octet(given, j);
+            }
+        }
+    }
+
+    // Octet j of each lane's cell.
+    fn take_octet(&mut self, given: &[Option<LaneCell>], j: u32)
+        requires lanes { length given.now ≡ self.old.params.l }
+        requires j { j < octets_per_tick self.old.params }
+        requires room { length self.old.frames < octets_per_tick self.old.params }
+        ensures { GathersOn self.old self.new given.now j }
+    {
+        self.put(given, j);
+        let at = self.at + 1;
+        if at < self.shape.params().f {
+            self.at = at;
+        } else {
+            self.finish();
+        }
+    }
+
+    // The octets of a whole frame are there.
+    fn finish(&mut self)
+        requires room { length self.old.frames < octets_per_tick self.old.params }
+        requires legal { broken_law self.old.params ≡ None }
+        ensures { HasFinished self.old self.new }
+    {
+        layout_laws();
+        let frame = &mut self.frames[self.whole];
+        self.layout.unmap(&self.octets, &mut frame.words);
+        frame.mark = self.mark;
+        self.whole += 1;
+        self.begin();
+    }
+
+    // Octet j of each lane's cell, the first one most significant, at the same place of the frame.
+    fn put(&mut self, given: &[Option<LaneCell>], j: u32)
+        requires lanes { length given.now ≡ self.old.params.l }
+        requires j { j < octets_per_tick self.old.params }
+        ensures { HasPut self.old self.new given.now j }
     {
         let first = self.at as usize;
         let octets = self.shape.frame_octets() as usize;
+        let behind = 8 * (self.per_tick - 1 - j);
         for (lane, cell) in given.iter().enumerate() {
             if let Some(cell) = cell {
-                self.octets[lane * octets + first] = (cell.value % 256) as u8;
+                self.octets[lane * octets + first] = ((cell.value >> behind) % 256) as u8;
                 self.mark = self.mark.worse(cell.mark);
             }
         }
     }
 
-    /// The words of the frame that became whole last.
-    pub fn words(&self) -> &[u32]
-        ensures words { result.now ≡ self.now.words }
-        ensures size { length result.now ≡ self.now.params.m * self.now.params.s }
+    /// The frames that became whole in the last tick, oldest first.
+    pub fn frames(&self) -> &[Frame]
+        ensures frames { result.now ≡ self.now.frames }
+        ensures few { length result.now ≤ 8 }
     {
-        &self.words
+        &self.frames[..self.whole]
     }
+
+    /// How many octets of each lane are there of the frame that is not whole.
+    pub fn begun(&self) -> u32
+        ensures { result ≡ self.now.at }
+    {
+        self.at
+    }
+}
+
+// Room for the frames that may become whole in a tick.
+fn open_frames(alloc: Global, shape: &Shape) -> Result<Vec<Frame>, NoMemory>
+    ensures { IfOk result (λ v. HaveFrameSizes shape.now v.items) }
+{
+    let count = shape.frame_words() as usize;
+    let mut frames = Vec::new(alloc);
+    for _ in 0..shape.octets_per_tick() {
+        let Ok(words) = vec![in alloc; 0u32; count] else {
+            return Err(NoMemory);
+        };
+        let frame = Frame {
+            mark: Mark::Ok,
+            words,
+        };
+        if frames.push(frame).is_err() {
+            return Err(NoMemory);
+        }
+    }
+    Ok(frames)
 }

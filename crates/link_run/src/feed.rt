@@ -1,8 +1,10 @@
 //! The octets of source frames, on their way into the lanes.
-ghost use Rattle.std.specs.Prelude.{◌≡◌, ◌<◌, ◌+◌, ◌-◌, ◌*◌, ℕ, Some, IfOk, length, slice_index, if◌then◌else◌};
+ghost use Rattle.std.specs.Prelude.{◌≡◌, ◌<◌, ◌≤◌, ◌+◌, ◌-◌, ◌*◌, ◌^◌, ◌==◌, true, ℕ, List, Some, All, IfOk, IfSome, if◌then◌else◌, length, map, slice_index};
+ghost use Rattle.link_params.specs.Laws.{is_b};
 ghost use Rattle.sample_map.specs.Frames.{frame_of};
-ghost use Rattle.scenario.specs.Plans.{Plan, plan_of, source_frame};
-ghost use Rattle.link_run.specs.Seen.{HasFed};
+ghost use Rattle.scenario.specs.Plans.{Plan, numbers_from, plan_of, source_frame};
+ghost use Rattle.link_model.specs.Sends.{beginnings, handed_to};
+ghost use Rattle.link_run.specs.Seen.{HasFed, with_octet};
 
 use jesd_base::NoMemory;
 use sample_map::{Layout, layout_laws};
@@ -15,16 +17,16 @@ use std::marker::Model;
 #[derive(Drop)]
 pub struct Feed {
     layout: Layout,
-    // The octets of a frame on a lane.
+    // The octets of a frame on a lane, and those of a tick on a lane.
     size: u32,
+    per_tick: u32,
     begun: u32,
     words: Vec<u32>,
     octets: Vec<u8>,
 }
 
 impl Model for Feed {
-    ghost use Rattle.std.specs.Prelude.{◌≡◌, ◌*◌, length};
-    ghost use Rattle.link_run.specs.Seen.{Fed};
+    ghost use Rattle.link_run.specs.Seen.{Fed, HasFeedSizes};
 
     ghost Value = { Fed };
 
@@ -36,15 +38,16 @@ impl Model for Feed {
           f.octets.items;
     } };
 
-    ghost invariant = { λ f. (f.size ≡ f.layout.f) × (length f.words.items ≡ f.layout.m * f.layout.s)
-        × (length f.octets.items ≡ f.layout.l * f.layout.f) };
+    ghost invariant = { λ f. HasFeedSizes f.layout f.size f.per_tick f.words.items f.octets.items };
 }
 
 impl Feed {
     /// A feed from which no frame has begun. All its memory is taken here; `NoMemory` where there
     /// is none.
     pub fn open(alloc: Global, s: &Scenario) -> Result<Feed, NoMemory>
-        ensures { (plan : Plan) → plan_of s.now ≡ Some plan → IfOk result (λ f. HasFed f plan 0) }
+        ensures fed { (plan : Plan) → plan_of s.now ≡ Some plan
+            → IfOk result (λ f. HasFed f plan 0) }
+        ensures shape { IfOk result (λ f. f.params ≡ s.now.shape) }
     {
         let size = (s.shape.lanes() * s.shape.frame_octets()) as usize;
         let count = s.shape.frame_words() as usize;
@@ -55,6 +58,7 @@ impl Feed {
         let mut feed = Feed {
             layout: Layout::new(&s.shape),
             size: s.shape.frame_octets(),
+            per_tick: s.shape.octets_per_tick(),
             begun: 0,
             words,
             octets,
@@ -63,8 +67,75 @@ impl Feed {
         Ok(feed)
     }
 
-    /// The next source frame begins.
-    pub fn begin(&mut self, s: &Scenario)
+    /// What each lane is handed in a tick at this place of its multiframe or extended multiblock:
+    /// the octets of the tick as one number, the first one most significant; 0 where the tick
+    /// carries no data. Each source frame of which the tick has the first octet begins.
+    pub fn hand(&mut self, s: &Scenario, place: Option<u32>, handed: &mut [u64])
+        requires shape { s.now.shape ≡ self.old.params }
+        requires lanes { length handed.old ≡ self.old.params.l }
+        requires place { IfSome place (λ x. x < 1024) }
+        requires count { self.old.begun + 8 ≤ 4294967295 }
+        ensures handed { (plan : Plan) (n : ℕ) → plan_of s.now ≡ Some plan → HasFed self.old plan n
+            → handed.new ≡ map (handed_to plan n place) (numbers_from 0 plan.link.params.l) }
+        ensures fed { (plan : Plan) (n : ℕ) → plan_of s.now ≡ Some plan → HasFed self.old plan n
+            → HasFed self.new plan (n + length (beginnings plan.link.params place)) }
+        ensures small { is_b self.old.params.mode ≡ true → All (λ v. v < 256) handed.new }
+        ensures lanes { length handed.new ≡ length handed.old }
+        ensures same { self.new.params ≡ self.old.params }
+        ensures count { self.new.begun ≤ self.old.begun + 8 }
+    {
+        handed.fill(0);
+        if let Some(place) = place {
+            for j in 0..self.per_tick {
+                self.hand_octet(s, (self.per_tick * place + j) % self.size, handed);
+            }
+        }
+    }
+
+    // The next octet of each lane, at this place of a frame.
+    fn hand_octet(&mut self, s: &Scenario, at: u32, handed: &mut [u64])
+        requires shape { s.now.shape ≡ self.old.params }
+        requires lanes { length handed.old ≡ self.old.params.l }
+        requires at { at < self.old.params.f }
+        requires count { self.old.begun < 4294967295 }
+        requires small { All (λ v. v < 2 ^ 56) handed.old }
+        ensures handed { handed.new ≡ with_octet self.new at handed.old }
+        ensures small { (m : ℕ) → All (λ v. v < m) handed.old → All (λ v. v < m * 256) handed.new }
+        ensures fed { (plan : Plan) (n : ℕ) → plan_of s.now ≡ Some plan → HasFed self.old plan n
+            → HasFed self.new plan (n + (if at == 0 then 1 else 0)) }
+        ensures same { self.new.params ≡ self.old.params }
+        ensures count { self.new.begun ≤ self.old.begun + 1 }
+    {
+        if at == 0 {
+            self.begin(s);
+        }
+        self.add_octet(at, handed);
+    }
+
+    // Octet `at` of the frame that began last, behind what each lane has.
+    fn add_octet(&self, at: u32, handed: &mut [u64])
+        requires lanes { length handed.old ≡ self.now.params.l }
+        requires at { at < self.now.params.f }
+        requires small { All (λ v. v < 2 ^ 56) handed.old }
+        ensures handed { handed.new ≡ with_octet self.now at handed.old }
+        ensures small { (m : ℕ) → All (λ v. v < m) handed.old → All (λ v. v < m * 256) handed.new }
+    {
+        let (size, at) = (self.size as usize, at as usize);
+        for (lane, number) in handed.iter_mut().enumerate() {
+            *number = *number * 256 + u64::from(self.octet(lane * size + at));
+        }
+    }
+
+    // The octet at this place of the frame that began last.
+    fn octet(&self, place: usize) -> u8
+        requires { place < length self.now.octets }
+        ensures { result ≡ slice_index self.now.octets place }
+    {
+        self.octets[place]
+    }
+
+    // The next source frame begins.
+    fn begin(&mut self, s: &Scenario)
         requires count { self.old.begun < 4294967295 }
         requires shape { s.now.shape ≡ self.old.params }
         ensures same { self.new.params ≡ self.old.params }
@@ -74,27 +145,6 @@ impl Feed {
     {
         self.lay_out(s, self.begun);
         self.begun += 1;
-    }
-
-    /// Octet `at` of a lane of the frame that began last; `at` is below F.
-    pub fn octet(&self, lane: u32, at: u32) -> u8
-        requires lane { lane < self.now.params.l }
-        requires at { at < self.now.params.f }
-        ensures octet { result ≡ slice_index self.now.octets (lane * self.now.params.f + at) }
-        ensures fed { (plan : Plan) (n : ℕ) → HasFed self.now plan n
-            → result ≡ slice_index (frame_of plan.link.params (source_frame plan (n - 1))) (lane * plan.link.params.f + at) }
-    {
-        self.octets[lane as usize * self.size as usize + at as usize]
-    }
-
-    /// The words of the frame that began last.
-    pub fn words(&self) -> &[u32]
-        ensures words { result.now ≡ self.now.words }
-        ensures size { length result.now ≡ self.now.params.m * self.now.params.s }
-        ensures fed { (plan : Plan) (n : ℕ) → HasFed self.now plan n
-            → result.now ≡ source_frame plan (n - 1) }
-    {
-        &self.words
     }
 
     // Writes the words and the octets of a source frame. A scenario with no link has none, and

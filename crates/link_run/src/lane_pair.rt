@@ -1,18 +1,21 @@
 //! Both ends of a lane and the line between them.
 ghost use Rattle.std.specs.Prelude.{◌≡◌, ◌≤◌, ◌<◌, ◌+◌, ◌-◌, ◌*◌, [], ℕ, None, false, length, get_or, IfOk};
 ghost use Rattle.std.specs.List.Sorted.{IsStrictlyIncreasing};
-ghost use Rattle.link_params.specs.declared.fields.Mode.TheVariants.{B};
 ghost use Rattle.link_params.specs.Lanes.{Placed};
-ghost use Rattle.lane_b.specs.Received.{entries_b, report_b};
+ghost use Rattle.link_params.specs.Numbers.{width};
 ghost use Rattle.lane_b.specs.Gives.{given};
-ghost use Rattle.lane_b.specs.Senders.{Follows, next_place};
+ghost use Rattle.lane_c.specs.Receivers.{IsArmedOn};
 ghost use Rattle.scenario.specs.Plans.{Plan};
 ghost use Rattle.link_model.specs.Carried.{inverted_bits};
-ghost use Rattle.link_run.specs.LaneRuns.{HasRunLane};
+ghost use Rattle.link_model.specs.Kinds.{kind_of};
 ghost use Rattle.link_model.specs.LaneRuns.{LaneRun, no_run, stepped};
+ghost use Rattle.link_run.specs.LaneEnds.{IsSmall, MayFollow, buffer_in, next_in, params_in, tx_width};
+ghost use Rattle.link_run.specs.LaneRuns.{HasRunLane};
+ghost use Rattle.link_run.specs.Sendings.{next_after};
 
+use crate::rx_lane::RxLane;
+use crate::tx_lane::TxLane;
 use jesd_base::NoMemory;
-use lane_b::{RxLaneB, TxLaneB};
 use line_model::Line;
 use link_params::{LaneCell, LaneReport, Link, RxOrder, TxOrder};
 use std::alloc::Global;
@@ -21,20 +24,19 @@ use std::marker::Model;
 /// A transmitter lane, a line and a receiver lane.
 #[derive(Drop)]
 pub struct LanePair {
-    tx: TxLaneB,
+    tx: TxLane,
     line: Line,
-    rx: RxLaneB,
+    rx: RxLane,
 }
 
 impl Model for LanePair {
-    ghost use Rattle.std.specs.Prelude.{◌≡◌};
-    ghost use Rattle.link_run.specs.LaneRuns.{Pair};
+    ghost use Rattle.link_run.specs.LaneRuns.{AreAlike, Pair};
 
     ghost Value = { Pair };
 
     ghost view = { λ s. record { tx = s.tx; line = s.line; rx = s.rx } };
 
-    ghost invariant = { λ s. s.line.set.width ≡ 10 };
+    ghost invariant = { λ s. AreAlike s.tx s.line s.rx };
 }
 
 impl LanePair {
@@ -46,46 +48,49 @@ impl LanePair {
         lane: u32,
         flips: Vec<u64>,
     ) -> Result<LanePair, NoMemory>
-        requires mode { link.now.params.mode ≡ B }
         requires lane { lane < link.now.params.l }
         requires ascending { IsStrictlyIncreasing flips.items }
         ensures begins { (s : Plan) → s.link ≡ link.now
-            → flips.items ≡ inverted_bits s lane (10 * s.ticks)
+            → flips.items ≡ inverted_bits s lane (width link.now.params * s.ticks)
             → IfOk result (λ x. HasRunLane x s lane (no_run s)) }
-        ensures next { IfOk result (λ x. (x.tx.params ≡ link.now.params) × (x.tx.next ≡ None)) }
+        ensures next { IfOk result (λ x. (params_in x.tx ≡ link.now.params) × (next_in x.tx ≡ None)) }
     {
         let shape = link.shape();
         let reach = (shape.period() - 1) * shape.width();
         let delay = link.timing().w_lo * shape.width();
         let line = Line::open(alloc, shape.width(), reach, delay, flips)?;
-        let rx = RxLaneB::open(alloc, link, lane)?;
+        let rx = RxLane::open(alloc, link, lane)?;
         Ok(LanePair {
-            tx: TxLaneB::new(link, lane),
+            tx: TxLane::new(link, lane),
             line,
             rx,
         })
     }
 
-    /// A tick: the order and the octet of the transmitter end, and the order of the receiver end.
-    pub fn step(&mut self, order: TxOrder, octet: u8, told: &RxOrder)
-        requires follows { Follows self.old.tx.params self.old.tx.next order }
+    /// A tick: the order and the octets of the transmitter end, one or eight with the first one
+    /// most significant, and the order of the receiver end.
+    pub fn step(&mut self, order: TxOrder, octets: u64, told: &RxOrder)
+        requires follows { MayFollow self.old.tx order }
+        requires small { IsSmall self.old.tx octets }
         requires room { told.now.hunt ≡ false
-            → length self.old.rx.buffer.cells < self.old.rx.buffer.depth }
+            → length (buffer_in self.old.rx).cells < (buffer_in self.old.rx).depth }
         ensures goes_on { (s : Plan) (lane : ℕ) (x : LaneRun) → HasRunLane self.old s lane x
-            → HasRunLane self.new s lane (stepped s lane x order octet told.now) }
-        ensures next { self.new.tx.next ≡ next_place self.old.tx.params order }
-        ensures same { self.new.tx.params ≡ self.old.tx.params }
-        ensures depth { self.new.rx.buffer.depth ≡ self.old.rx.buffer.depth }
+            → (told.now.hunt ≡ false → IsArmedOn x.taken told.now)
+            → HasRunLane self.new s lane (stepped (kind_of s.link.params) s lane x order octets told.now) }
+        ensures next { next_in self.new.tx ≡ next_after (params_in self.old.tx) order }
+        ensures same { params_in self.new.tx ≡ params_in self.old.tx }
+        ensures depth { (buffer_in self.new.rx).depth ≡ (buffer_in self.old.rx).depth }
+        ensures width { tx_width self.new.tx ≡ tx_width self.old.tx }
     {
-        let sent = self.tx.tick(order, octet);
-        let received = self.line.step(u128::from(sent));
-        self.rx.take(told, received as u16);
+        let sent = self.tx.tick(order, octets);
+        let received = self.line.step(sent);
+        self.rx.take(told, received);
     }
 
     /// The report of the receiver end.
     pub fn report(&self) -> LaneReport
         ensures { (s : Plan) (lane : ℕ) (x : LaneRun) → HasRunLane self.now s lane x
-            → result ≡ report_b s.link.params s.link.timing lane x.taken }
+            → result ≡ (kind_of s.link.params).report s.link.params s.link.timing lane x.taken }
     {
         self.rx.report()
     }
@@ -93,22 +98,21 @@ impl LanePair {
     /// How many entries the elastic buffer holds.
     pub fn held(&self) -> u32
         ensures entries { (s : Plan) (lane : ℕ) (x : LaneRun) → HasRunLane self.now s lane x
-            → result ≡ length (entries_b s.link.params s.link.timing lane x.taken) - x.gave }
-        ensures count { result ≡ length self.now.rx.buffer.cells }
+            → result ≡ length ((kind_of s.link.params).entries s.link.params s.link.timing lane x.taken) - x.gave }
+        ensures count { result ≡ length (buffer_in self.now.rx).cells }
     {
         self.rx.held()
     }
 
     /// The oldest entry: nothing for a place of the alignment sequence.
     pub fn give(&mut self) -> Option<LaneCell>
-        requires { 0 < length self.old.rx.buffer.cells }
+        requires { 0 < length (buffer_in self.old.rx).cells }
         ensures entry { (s : Plan) (lane : ℕ) (x : LaneRun) → HasRunLane self.old s lane x
-            → result ≡ given (get_or (entries_b s.link.params s.link.timing lane x.taken) x.gave Placed) }
+            → result ≡ given (get_or ((kind_of s.link.params).entries s.link.params s.link.timing lane x.taken) x.gave Placed) }
         ensures goes_on { (s : Plan) (lane : ℕ) (x : LaneRun) → HasRunLane self.old s lane x
             → HasRunLane self.new s lane (record x { gave = x.gave + 1 }) }
-        ensures next { self.new.tx.next ≡ self.old.tx.next }
-        ensures same { self.new.tx.params ≡ self.old.tx.params }
-        ensures depth { self.new.rx.buffer.depth ≡ self.old.rx.buffer.depth }
+        ensures tx { self.new.tx ≡ self.old.tx }
+        ensures depth { (buffer_in self.new.rx).depth ≡ (buffer_in self.old.rx).depth }
     {
         self.rx.give()
     }
@@ -117,9 +121,10 @@ impl LanePair {
     pub fn clear_tx(&mut self)
         ensures goes_on { (s : Plan) (lane : ℕ) (x : LaneRun) → HasRunLane self.old s lane x
             → HasRunLane self.new s lane (record x { handed = [] }) }
-        ensures next { self.new.tx.next ≡ None }
-        ensures same { self.new.tx.params ≡ self.old.tx.params }
-        ensures buffer { self.new.rx.buffer ≡ self.old.rx.buffer }
+        ensures next { next_in self.new.tx ≡ None }
+        ensures same { params_in self.new.tx ≡ params_in self.old.tx }
+        ensures width { tx_width self.new.tx ≡ tx_width self.old.tx }
+        ensures rx { self.new.rx ≡ self.old.rx }
     {
         self.tx.clear();
     }

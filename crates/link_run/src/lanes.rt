@@ -1,15 +1,15 @@
 //! The lanes of a run.
-ghost use Rattle.std.specs.Prelude.{◌≡◌, ◌≤◌, ◌<◌, ◌+◌, ℕ, [], length, get_or, map, fold, max, false, Option, None, All, IfOk, IfSome, IsTrue};
+ghost use Rattle.std.specs.Prelude.{◌≡◌, ◌≤◌, ◌<◌, ◌+◌, ℕ, [], length, get_or, slice_index, map, fold, max, false, Option, None, All, IfOk, IsTrue};
 ghost use Rattle.link_params.specs.declared.fields.Params.{Params as ParamsValue};
-ghost use Rattle.link_params.specs.declared.fields.Mode.TheVariants.{B};
-ghost use Rattle.lane_b.specs.Received.{report_b};
-ghost use Rattle.lane_b.specs.Senders.{Follows, next_place};
 ghost use Rattle.scenario.specs.Limits.{flip_fits};
 ghost use Rattle.scenario.specs.Plans.{Plan, numbers_from};
+ghost use Rattle.lane_c.specs.Receivers.{IsArmedOn};
+ghost use Rattle.link_model.specs.Kinds.{kind_of};
+ghost use Rattle.link_model.specs.LaneRuns.{LaneRun, given_by, held_by, no_run, stepped};
+ghost use Rattle.link_run.specs.LaneEnds.{IsSmall, MayFollow};
 ghost use Rattle.link_run.specs.LaneRuns.{AreAt, HaveEntries, HaveRoom, HaveRun, Pair, with_lane};
-ghost use Rattle.link_model.specs.LaneRuns.{LaneRun, given_by, held_by, no_run, octet_handed, stepped};
+ghost use Rattle.link_run.specs.Sendings.{next_after};
 
-use crate::feed::Feed;
 use crate::flips::inverted_bits;
 use crate::lane_pair::LanePair;
 use jesd_base::NoMemory;
@@ -38,7 +38,6 @@ impl Model for Lanes {
 impl Lanes {
     /// The lanes before the first tick of a run of so many ticks; `NoMemory` where there is none.
     pub fn open(alloc: Global, link: &Link, flips: &[Flip], ticks: u32) -> Result<Lanes, NoMemory>
-        requires mode { link.now.params.mode ≡ B }
         requires ticks { ticks ≤ 1048576 }
         requires flips { All (λ f. IsTrue (flip_fits link.now.params ticks f)) flips.now }
         ensures begins { (s : Plan) → s.link ≡ link.now → s.flips ≡ flips.now → s.ticks ≡ ticks
@@ -57,24 +56,25 @@ impl Lanes {
         Ok(Lanes { pairs })
     }
 
-    /// A tick of each lane. `at` is the place in its frame of the octets that are handed in, where
-    /// the order is data.
-    pub fn step(&mut self, order: TxOrder, feed: &Feed, at: Option<u32>, told: &RxOrder)
+    /// A tick of each lane: the order of all transmitter ends, the octets that each one is handed as
+    /// a number, lane 0's first, and the order of all receiver ends.
+    pub fn step(&mut self, order: TxOrder, handed: &[u64], told: &RxOrder)
         requires follows { (lane : ℕ) (d : Pair) → lane < length self.old
-            → Follows (get_or self.old lane d).tx.params (get_or self.old lane d).tx.next order }
+            → MayFollow (get_or self.old lane d).tx order }
+        requires small { (lane : ℕ) (d : Pair) → lane < length self.old
+            → IsSmall (get_or self.old lane d).tx (slice_index handed.now lane) }
         requires room { told.now.hunt ≡ false → HaveRoom self.old }
-        requires lanes { length self.old ≤ feed.now.params.l }
-        requires place { IfSome at (λ a. a < feed.now.params.f) }
+        requires lanes { length self.old ≤ length handed.now }
         ensures goes_on { (s : Plan) (runs : ℕ → LaneRun) → HaveRun self.old s runs
-            → HaveRun self.new s (λ lane. stepped s lane (runs lane) order (octet_handed feed.now.params feed.now.octets at lane) told.now) }
+            → (told.now.hunt ≡ false
+            → (lane : ℕ) → lane < s.link.params.l → IsArmedOn (runs lane).taken told.now)
+            → HaveRun self.new s (λ lane. stepped (kind_of s.link.params) s lane (runs lane) order (slice_index handed.now lane) told.now) }
         ensures at { (p : ParamsValue) (next : Option ℕ) → AreAt self.old p next
-            → AreAt self.new p (next_place p order) }
+            → AreAt self.new p (next_after p order) }
         ensures lanes { length self.new ≡ length self.old }
     {
-        let mut lane = 0;
-        for pair in self.pairs.iter_mut() {
-            pair.step(order, octet_of(feed, lane, at), told);
-            lane += 1;
+        for (lane, pair) in self.pairs.iter_mut().enumerate() {
+            pair.step(order, handed[lane], told);
         }
     }
 
@@ -82,7 +82,7 @@ impl Lanes {
     pub fn report(&self, reports: &mut [LaneReport])
         requires { length reports.old ≡ length self.now }
         ensures { (s : Plan) (runs : ℕ → LaneRun) → HaveRun self.now s runs
-            → reports.new ≡ map (λ lane. report_b s.link.params s.link.timing lane (runs lane).taken) (numbers_from 0 s.link.params.l) }
+            → reports.new ≡ map (λ lane. (kind_of s.link.params).report s.link.params s.link.timing lane (runs lane).taken) (numbers_from 0 s.link.params.l) }
     {
         for lane in 0..self.pairs.as_slice().len() {
             reports[lane] = self.pairs[lane].report();
@@ -92,7 +92,7 @@ impl Lanes {
     /// The most entries that any lane holds, or `most` where that is more.
     pub fn fullest(&self, most: u32) -> u32
         ensures { (s : Plan) (runs : ℕ → LaneRun) → HaveRun self.now s runs
-            → result ≡ fold max most (map (held_by s runs) (numbers_from 0 s.link.params.l)) }
+            → result ≡ fold max most (map (held_by (kind_of s.link.params) s runs) (numbers_from 0 s.link.params.l)) }
     {
         let mut most = most;
         for pair in &self.pairs {
@@ -106,7 +106,7 @@ impl Lanes {
         requires count { length given.old ≡ length self.old }
         requires entries { HaveEntries self.old }
         ensures given { (s : Plan) (runs : ℕ → LaneRun) → HaveRun self.old s runs
-            → given.new ≡ map (given_by s runs) (numbers_from 0 s.link.params.l) }
+            → given.new ≡ map (given_by (kind_of s.link.params) s runs) (numbers_from 0 s.link.params.l) }
         ensures goes_on { (s : Plan) (runs : ℕ → LaneRun) → HaveRun self.old s runs
             → HaveRun self.new s (λ lane. record (runs lane) { gave = (runs lane).gave + 1 }) }
         ensures at { (p : ParamsValue) (next : Option ℕ) → AreAt self.old p next
@@ -154,17 +154,5 @@ impl Lanes {
         ensures lanes { length self.new ≡ length self.old }
     {
         self.pairs[lane as usize].set_dead(dead);
-    }
-}
-
-// The octet that a lane is handed.
-fn octet_of(feed: &Feed, lane: u32, at: Option<u32>) -> u8
-    requires lane { lane < feed.now.params.l }
-    requires place { IfSome at (λ a. a < feed.now.params.f) }
-    ensures { result ≡ octet_handed feed.now.params feed.now.octets at lane }
-{
-    match at {
-        Some(at) => feed.octet(lane, at),
-        None => 0,
     }
 }

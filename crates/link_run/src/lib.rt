@@ -1,16 +1,18 @@
-//! The run of a scenario: both ends of a link with 8b/10b lanes, the lines between them, and the
-//! report.
+//! The run of a scenario: both ends of a link, with 8b/10b or 64b/66b lanes, the lines
+//! between them, and the report.
 //!
 //! ```text
 //! let Ran { text, totals } = run(alloc, &scenario)?;
 //! ```
 #![tactic(auto)]
 
+mod alignment;
 mod deframer;
 mod device_clock;
 mod events;
 mod feed;
 mod flips;
+mod frame;
 mod happened;
 mod lane_pair;
 mod lanes;
@@ -19,6 +21,7 @@ mod receiver;
 mod report;
 mod reporting;
 mod runs;
+mod rx_lane;
 mod rx_tick;
 mod sending;
 mod sync_line;
@@ -28,6 +31,7 @@ mod tests_clock;
 mod tests_parts;
 mod ticked;
 mod transmitter;
+mod tx_lane;
 mod tx_tick;
 
 pub use runs::{Ran, run};

@@ -1,15 +1,13 @@
 //! Both ends of a link, and the lanes between them.
-ghost use Rattle.std.specs.Prelude.{◌≡◌, ◌≤◌, ◌<◌, ◌+◌, ◌*◌, ◌++◌, ◌∷◌, [], ℕ, length, Option, None, Some, fold, max, if◌then◌else◌, IfOk};
+ghost use Rattle.std.specs.Prelude.{◌≡◌, ◌≤◌, ◌<◌, ◌+◌, ◌*◌, ◌++◌, ◌∷◌, [], ℕ, length, Option, None, Some, fold, max, if◌then◌else◌, All, IfOk, IfSome};
 ghost use Rattle.std.specs.List.{flat_map};
-ghost use Rattle.link_params.specs.declared.fields.Mode.TheVariants.{B};
 ghost use Rattle.link_params.specs.declared.fields.Params.{Params as ParamsValue};
 ghost use Rattle.bring_up.specs.declared.stage.Stage.TheVariants as stage;
 ghost use Rattle.bring_up.specs.Decisions.{is_hunting};
-ghost use Rattle.lane_b.specs.Received.{lanes_b};
 ghost use Rattle.scenario.specs.Plans.{Plan, plan_of};
-ghost use Rattle.link_model.specs.Run.{run};
+ghost use Rattle.link_model.specs.Kinds.{run_of};
 ghost use Rattle.link_model.specs.Before.{Columns};
-ghost use Rattle.link_run.specs.Gathered.{HasGathered};
+ghost use Rattle.link_run.specs.Gathered.{HasGathered, Whole};
 ghost use Rattle.link_run.specs.LaneRuns.{AreAt, HaveRun};
 ghost use Rattle.link_model.specs.LaneRuns.{LaneRun};
 ghost use Rattle.link_run.specs.LinkStates.{CanGive, CanStep, HasGiven, HasHappened, HasRun, HasStepped};
@@ -17,21 +15,20 @@ ghost use Rattle.link_run.specs.Reported.{IsSeen};
 
 use crate::deframer::Deframer;
 use crate::events::happen;
+use crate::frame::Frame;
 use crate::happened::Happened;
 use crate::lanes::Lanes;
 use crate::receiver::Receiver;
-use crate::rx_tick::RxTick;
 use crate::ticked::Ticked;
 use crate::transmitter::Transmitter;
-use crate::tx_tick::TxTick;
 use bring_up::{AlarmRow, Stage};
 use jesd_base::NoMemory;
-use link_params::{LaneCell, Link, Mark, RxOrder, TxOrder};
+use link_params::{LaneCell, Link, RxOrder, TxOrder};
 use scenario::Scenario;
 use std::alloc::Global;
 use std::marker::Model;
 
-/// Both ends of a link with 8b/10b lanes, and the lanes between them.
+/// Both ends of a link, and the lanes between them.
 #[derive(Drop)]
 pub struct LinkState {
     link: Link,
@@ -45,7 +42,6 @@ pub struct LinkState {
 
 impl Model for LinkState {
     ghost use Rattle.std.specs.Prelude.{◌≡◌};
-    ghost use Rattle.link_params.specs.declared.fields.Mode.TheVariants.{B};
     ghost use Rattle.link_run.specs.LinkStates.{LinkView};
 
     ghost Value = { LinkView };
@@ -60,8 +56,6 @@ impl Model for LinkState {
           l.given.items;
       gathering = l.deframer;
     } };
-
-    ghost invariant = { λ l. l.link.params.mode ≡ B };
 }
 
 impl LinkState {
@@ -69,7 +63,6 @@ impl LinkState {
     /// little of it.
     pub fn open(alloc: Global, s: &Scenario, link: &Link) -> Result<LinkState, NoMemory>
         requires link { s.now.link ≡ Some link.now }
-        requires mode { link.now.params.mode ≡ B }
         ensures stands { (plan : Plan) → plan_of s.now ≡ Some plan
             → IfOk result (λ l. HasRun l plan []) }
         ensures same { IfOk result (λ l. l.link ≡ link.now) }
@@ -94,41 +87,34 @@ impl LinkState {
         requires tick { t < s.now.ticks }
         requires link { s.now.link ≡ Some self.old.link }
         requires most { (plan : Plan) → plan_of s.now ≡ Some plan
-            → most ≡ fold max 0 (flat_map (λ m. m.held) (run lanes_b plan t)) }
+            → most ≡ fold max 0 (flat_map (λ m. m.held) (run_of plan t)) }
         requires stands { (plan : Plan) → plan_of s.now ≡ Some plan
-            → HasRun self.old plan (run lanes_b plan t) }
+            → HasRun self.old plan (run_of plan t) }
         ensures seen { (plan : Plan) → plan_of s.now ≡ Some plan
-            → IsSeen result self.new.tx.feed.words self.new.rx.alarms self.new.gathering.words plan
-            (run lanes_b plan t) }
+            → IsSeen result self.new.rx.alarms self.new.gathering.frames self.new.gathering.at plan (run_of plan t) }
         ensures goes_on { (plan : Plan) → plan_of s.now ≡ Some plan
-            → HasRun self.new plan (run lanes_b plan (t + 1)) }
+            → HasRun self.new plan (run_of plan (t + 1)) }
+        ensures place { IfSome result.place (λ x. x < 1024) }
+        ensures words { All (λ (f : Whole). length f.words ≡ s.now.shape.m * s.now.shape.s) self.new.gathering.frames }
+        ensures begun { self.new.gathering.at ≤ 256 }
         ensures same { self.new.link ≡ self.old.link }
     {
         let happened = self.happen(s, t);
         let sent = self.tx.tick(s, &self.link, t, happened.tx_reset);
         let told = self.rx.tell(s, &self.link, t, happened.rx_reset);
-        self.step(s, t, sent.order, sent.at, &told.told);
+        self.step(s, t, sent.order, &told.told);
         let fullest = self.lanes.fullest(most);
         let decision = self.rx.end(s, t, &self.lanes, told.decides);
         self.tx.end(is_low(self.rx.stage()));
-        let mark = self.give(s, t);
+        self.give(s, t);
         Ticked {
             rx_reset: happened.rx_reset,
             tx_off: sent.off,
             rx_off: told.off,
-            begins: sent.begins,
+            place: sent.place,
             decision,
-            mark,
             fullest,
         }
-    }
-
-    /// The words of the frame that began last; before the first one those of frame 0.
-    pub fn entered(&self) -> &[u32]
-        ensures words { result.now ≡ self.now.tx.feed.words }
-        ensures size { length result.now ≡ self.now.tx.feed.params.m * self.now.tx.feed.params.s }
-    {
-        self.tx.feed().words()
     }
 
     /// The alarms of the last tick's decision.
@@ -139,12 +125,14 @@ impl LinkState {
         self.rx.alarms()
     }
 
-    /// The words of the frame that was whole last.
-    pub fn delivered(&self) -> &[u32]
-        ensures words { result.now ≡ self.now.gathering.words }
-        ensures size { length result.now ≡ self.now.gathering.params.m * self.now.gathering.params.s }
+    /// The frames that were delivered in the last tick, oldest first, and how many octets of each
+    /// lane are there of the one that is not whole.
+    pub fn delivered(&self) -> (&[Frame], u32)
+        ensures frames { result.0.now ≡ self.now.gathering.frames }
+        ensures few { length result.0.now ≤ 8 }
+        ensures begun { result.1 ≡ self.now.gathering.at }
     {
-        self.deframer.words()
+        (self.deframer.frames(), self.deframer.begun())
     }
 
     // The events of tick `t` happen.
@@ -152,9 +140,9 @@ impl LinkState {
         requires tick { t < s.now.ticks }
         requires link { s.now.link ≡ Some self.old.link }
         requires stands { (plan : Plan) → plan_of s.now ≡ Some plan
-            → HasRun self.old plan (run lanes_b plan t) }
+            → HasRun self.old plan (run_of plan t) }
         ensures { (plan : Plan) → plan_of s.now ≡ Some plan
-            → HasHappened result self.old self.new plan (run lanes_b plan t) }
+            → HasHappened result self.old self.new plan (run_of plan t) }
     {
         let happened = happen(s, &mut self.lanes, self.next, t);
         self.next = happened.next;
@@ -162,29 +150,28 @@ impl LinkState {
         happened
     }
 
-    // Each lane sends and takes tick `t`. `at` is the place in the frame of its octets, where the
-    // order is data.
-    fn step(&mut self, s: &Scenario, t: u32, order: TxOrder, at: Option<u32>, told: &RxOrder)
+    // Each lane sends and takes tick `t`.
+    fn step(&mut self, s: &Scenario, t: u32, order: TxOrder, told: &RxOrder)
         requires link { s.now.link ≡ Some self.old.link }
         requires can { (plan : Plan) → plan_of s.now ≡ Some plan
-            → CanStep self.old order at told.now plan (run lanes_b plan t) }
+            → CanStep self.old order told.now plan (run_of plan t) }
         ensures { (plan : Plan) → plan_of s.now ≡ Some plan
-            → HasStepped order self.old self.new plan (run lanes_b plan t) }
+            → HasStepped order self.old self.new plan (run_of plan t) }
     {
         clear_frame(&mut self.deframer, told.hunt);
         let _shape = self.link.shape();
         let _timing = self.link.timing();
-        self.lanes.step(order, self.tx.feed(), at, told);
+        self.lanes.step(order, self.tx.handed(), told);
     }
 
-    // Where the link is released each lane gives an entry. The mark of a frame that is whole with
-    // them.
-    fn give(&mut self, s: &Scenario, t: u32) -> Option<Mark>
+    // Where the link is released each lane gives an entry, and the frames that are whole with them
+    // are delivered.
+    fn give(&mut self, s: &Scenario, t: u32)
         requires link { s.now.link ≡ Some self.old.link }
         requires can { (plan : Plan) → plan_of s.now ≡ Some plan
-            → CanGive self.old plan (run lanes_b plan t) }
+            → CanGive self.old plan (run_of plan t) }
         ensures gave { (plan : Plan) → plan_of s.now ≡ Some plan
-            → HasGiven result self.new plan (run lanes_b plan t) }
+            → HasGiven self.new plan (run_of plan t) }
         ensures at { (p : ParamsValue) (next : Option ℕ) → AreAt self.old.lanes p next
             → AreAt self.new.lanes p next }
         ensures same { self.new ≡ record self.old {
@@ -196,11 +183,13 @@ impl LinkState {
     {
         let _shape = self.link.shape();
         let _timing = self.link.timing();
-        let Stage::Run = self.rx.stage() else {
-            return None;
-        };
-        self.lanes.give(&mut self.given);
-        self.deframer.take(&self.given)
+        match self.rx.stage() {
+            Stage::Run => {
+                self.lanes.give(&mut self.given);
+                self.deframer.take(&self.given);
+            }
+            Stage::Hunt | Stage::Wait => self.deframer.rest(),
+        }
     }
 }
 

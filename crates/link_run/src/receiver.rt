@@ -1,6 +1,5 @@
 //! The receiver of a run.
 ghost use Rattle.std.specs.Prelude.{◌≡◌, ◌<◌, ◌≤◌, ◌+◌, ◌-◌, ◌*◌, ◌%◌, ◌^◌, ◌++◌, ◌∷◌, ◌||◌, [], List, None, Some, length, is_some, IsTrue, IfOk, if◌then◌else◌};
-ghost use Rattle.link_params.specs.declared.fields.Mode.TheVariants.{B};
 ghost use Rattle.link_params.specs.declared.fields.Params.{Params as ParamsValue};
 ghost use Rattle.link_params.specs.declared.fields.Timing.{Timing as TimingValue};
 ghost use Rattle.link_params.specs.declared.lane_report.LaneReport.{LaneReport as ReportValue};
@@ -8,9 +7,9 @@ ghost use Rattle.link_params.specs.declared.alarms.Device.TheVariants.{Rx as RxD
 ghost use Rattle.bring_up.specs.Controls.{HasDecided};
 ghost use Rattle.scenario.specs.Plans.{Plan, plan_of};
 ghost use Rattle.link_model.specs.Edges.{is_reset};
-ghost use Rattle.lane_b.specs.Received.{lanes_b};
+ghost use Rattle.link_model.specs.Kinds.{kind_of, moment_of, run_of};
 ghost use Rattle.link_model.specs.Moments.{History};
-ghost use Rattle.link_model.specs.Run.{is_at, moment, run};
+ghost use Rattle.link_model.specs.Run.{is_at};
 ghost use Rattle.link_model.specs.Hunts.{is_hunt};
 ghost use Rattle.link_model.specs.Receives.{offset_at};
 ghost use Rattle.link_run.specs.LaneRuns.{HaveRun};
@@ -56,7 +55,6 @@ impl Model for Receiver {
 impl Receiver {
     /// The receiver of this link before the first tick. `NoMemory` where there is too little of it.
     pub fn open(alloc: Global, s: &Scenario, link: &Link) -> Result<Receiver, NoMemory>
-        requires mode { link.now.params.mode ≡ B }
         ensures begins { (plan : Plan) → plan_of s.now ≡ Some plan → plan.link ≡ link.now
             → IfOk result (λ r. HasReceivedRun r plan []) }
     {
@@ -104,12 +102,12 @@ impl Receiver {
     pub fn end(&mut self, s: &Scenario, t: u32, lanes: &Lanes, decides: bool) -> Decision
         requires link { IsTrue (is_some s.now.link) }
         requires told { (plan : Plan) → plan_of s.now ≡ Some plan
-            → HasToldTick self.old plan (run lanes_b plan t) }
+            → HasToldTick self.old plan (run_of plan t) }
         requires lanes { (plan : Plan) → plan_of s.now ≡ Some plan
-            → HaveRun lanes.now plan (lane_stepped plan (run lanes_b plan t)) }
+            → HaveRun lanes.now plan (lane_stepped (kind_of plan.link.params) plan (run_of plan t)) }
         ensures { (plan : Plan) → plan_of s.now ≡ Some plan
-            → decides ≡ (moment lanes_b plan (run lanes_b plan t)).decides
-            → IsEnded result self.new plan (run lanes_b plan t) }
+            → decides ≡ (moment_of plan (run_of plan t)).decides
+            → IsEnded result self.new plan (run_of plan t) }
     {
         if !decides {
             self.hunts = false;
@@ -124,11 +122,11 @@ impl Receiver {
     fn decide(&mut self, s: &Scenario, t: u32, lanes: &Lanes) -> Decision
         requires link { IsTrue (is_some s.now.link) }
         requires told { (plan : Plan) → plan_of s.now ≡ Some plan
-            → HasToldTick self.old plan (run lanes_b plan t) }
+            → HasToldTick self.old plan (run_of plan t) }
         requires lanes { (plan : Plan) → plan_of s.now ≡ Some plan
-            → HaveRun lanes.now plan (lane_stepped plan (run lanes_b plan t)) }
+            → HaveRun lanes.now plan (lane_stepped (kind_of plan.link.params) plan (run_of plan t)) }
         ensures { (plan : Plan) → plan_of s.now ≡ Some plan
-            → Decides result self.old self.new plan (run lanes_b plan t) }
+            → Decides result self.old self.new plan (run_of plan t) }
     {
         lanes.report(&mut self.reports);
         self.alarms.clear();
@@ -148,8 +146,8 @@ impl Receiver {
     /// The stage after the last tick.
     pub fn stage(&self) -> Stage
         ensures { (plan : Plan) (h : History)
-            → HasReceivedRun self.now plan (h ++ moment lanes_b plan h ∷ [])
-            → result ≡ (moment lanes_b plan h).stage }
+            → HasReceivedRun self.now plan (h ++ moment_of plan h ∷ [])
+            → result ≡ (moment_of plan h).stage }
     {
         self.control.stage()
     }

@@ -1,31 +1,41 @@
 //! The report of a run, row by row.
-ghost use Rattle.std.specs.Prelude.{◌≡◌, ◌≤◌, ◌<◌, ◌+◌, ◌*◌, ◌++◌, ◌∷◌, [], List, length, if◌then◌else◌, Some, IfOk, OnOk};
+ghost use Rattle.std.specs.Prelude.{◌≡◌, ◌≤◌, ◌<◌, ◌+◌, ◌*◌, ◌++◌, ◌∷◌, [], List, length, if◌then◌else◌, Some, IfOk, IsTrue, OnOk};
 ghost use Rattle.scenario.specs.declared.report_row.Row.TheVariants as row;
-ghost use Rattle.scenario.specs.Plans.{Plan, plan_of};
+ghost use Rattle.scenario.specs.Limits.{has_words};
+ghost use Rattle.scenario.specs.Plans.{Plan, plan_of, source_frame};
 ghost use Rattle.link_model.specs.Report.{Printed, bare, prints_all, prints_frames};
 ghost use Rattle.link_run.specs.Printing.{HasPrinted, counted_mark};
 
 use jesd_base::NoMemory;
 use link_params::{Alarm, Mark};
-use scenario::{LineText, Print, Row, Scenario, Totals};
+use scenario::{LineText, Print, Row, Scenario, Totals, source_frame};
 use std::alloc::Global;
 use std::marker::Model;
 
-/// The text of the rows so far, and the counts. Contracts see it as the text, the room of a line,
-/// and the counts.
+/// The text of the rows so far, and the counts. Contracts see it as the text, the line that
+/// was made last, the room of a line, how many words a frame has, and the counts.
 #[derive(Drop)]
 pub struct Report {
     text: Vec<u8>,
     line: LineText,
+    // Room for the words of a source frame.
+    words: Vec<u32>,
     totals: Totals,
 }
 
 impl Model for Report {
+    ghost use Rattle.std.specs.Prelude.{length};
     ghost use Rattle.link_run.specs.Printing.{Printing};
 
     ghost Value = { Printing };
 
-    ghost view = { λ r. record { text = r.text.items; room = r.line.room; totals = r.totals } };
+    ghost view = { λ r. record {
+      text = r.text.items;
+      line = r.line.bytes;
+      room = r.line.room;
+      size = length r.words.items;
+      totals = r.totals;
+    } };
 }
 
 impl Report {
@@ -34,7 +44,8 @@ impl Report {
     pub fn open(alloc: Global, s: &Scenario) -> Result<Report, NoMemory>
         ensures begins { (plan : Plan) → plan_of s.now ≡ Some plan
             → IfOk result (λ r. HasPrinted r plan []) }
-        ensures room { IfOk result (λ r. 128 ≤ r.room) }
+        ensures size { IfOk result (λ r. r.size ≡ s.now.shape.m * s.now.shape.s) }
+        ensures room { IfOk result (λ r. 128 + 9 * r.size ≤ r.room) }
         ensures nothing { IfOk result
             (λ r. r.totals ≡ record {
               ticks = 0;
@@ -48,10 +59,14 @@ impl Report {
               fullest = 0;
             }) }
     {
-        let line = LineText::open(alloc, 128 + 9 * s.shape.frame_words() as usize)?;
+        let count = s.shape.frame_words() as usize;
+        let Ok(words) = vec![in alloc; 0u32; count] else {
+            return Err(NoMemory);
+        };
         Ok(Report {
             text: Vec::new(alloc),
-            line,
+            line: LineText::open(alloc, 128 + 9 * count)?,
+            words,
             totals: Totals {
                 ticks: 0,
                 entered: 0,
@@ -73,8 +88,17 @@ impl Report {
             → OnOk result (HasPrinted self.new plan (rows ++ (record { row = row.now; words = words.now }) ∷ [])) }
         ensures counts { self.new.totals ≡ self.old.totals }
         ensures room { self.old.room ≤ self.new.room }
+        ensures size { self.new.size ≡ self.old.size }
     {
         self.line.line(row, words, s);
+        self.put()
+    }
+
+    // The line is put behind the text.
+    fn put(&mut self) -> Result<(), NoMemory>
+        ensures text { OnOk result (self.new.text ≡ self.old.text ++ self.old.line) }
+        ensures same { self.new ≡ record self.old { text = self.new.text } }
+    {
         match self.text.extend_from_slice(self.line.bytes()) {
             Ok(()) => Ok(()),
             Err(_) => Err(NoMemory),
@@ -90,24 +114,33 @@ impl Report {
             → OnOk result (HasPrinted self.new plan (rows ++ bare (row.Alarm t alarm) ∷ [])) }
         ensures counts { self.new.totals ≡ record self.old.totals { alarms = self.old.totals.alarms + 1 } }
         ensures room { self.old.room ≤ self.new.room }
+        ensures size { self.new.size ≡ self.old.size }
     {
         self.totals.alarms += 1;
         self.row(s, &Row::Alarm(t, alarm), &[])
     }
 
-    /// A source frame begins at this octet time.
-    pub fn enter(&mut self, s: &Scenario, time: u32, words: &[u32]) -> Result<(), NoMemory>
+    /// The next source frame begins, at this octet time.
+    pub fn enter(&mut self, s: &Scenario, time: u32) -> Result<(), NoMemory>
         requires count { self.old.totals.entered < 4294967295 }
-        requires room { 128 + 9 * length words.now ≤ self.old.room }
+        requires size { self.old.size ≡ s.now.shape.m * s.now.shape.s }
+        requires room { 128 + 9 * self.old.size ≤ self.old.room }
+        requires some { IsTrue (has_words s.now.input) }
         ensures printed { (plan : Plan) (rows : List Printed) → plan_of s.now ≡ Some plan
             → HasPrinted self.old plan rows
-            → OnOk result (HasPrinted self.new plan (rows ++ (if prints_all plan.print then (record { row = row.Enter time; words = words.now }) ∷ [] else []))) }
+            → OnOk result (HasPrinted self.new plan (rows ++ (if prints_all plan.print then (record { row = row.Enter time; words = source_frame plan self.old.totals.entered }) ∷ [] else []))) }
         ensures counts { self.new.totals ≡ record self.old.totals { entered = self.old.totals.entered + 1 } }
         ensures room { self.old.room ≤ self.new.room }
+        ensures size { self.new.size ≡ self.old.size }
     {
+        let number = u64::from(self.totals.entered);
         self.totals.entered += 1;
         match s.print {
-            Print::All => self.row(s, &Row::Enter(time), words),
+            Print::All => {
+                source_frame(s, number, &mut self.words);
+                self.line.line(&Row::Enter(time), &self.words, s);
+                self.put()
+            }
             Print::None | Print::Frames => Ok(()),
         }
     }
@@ -129,6 +162,7 @@ impl Report {
             → OnOk result (HasPrinted self.new plan (rows ++ (if prints_frames plan.print then (record { row = row.Frame time mark; words = words.now }) ∷ [] else []))) }
         ensures counts { self.new.totals ≡ counted_mark self.old.totals mark }
         ensures room { self.old.room ≤ self.new.room }
+        ensures size { self.new.size ≡ self.old.size }
     {
         self.totals.delivered += 1;
         match mark {

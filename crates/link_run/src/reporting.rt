@@ -1,21 +1,22 @@
 //! The rows of a tick.
-ghost use Rattle.std.specs.Prelude.{◌≡◌, ◌≤◌, ◌<◌, ◌+◌, ◌*◌, ◌++◌, ◌∷◌, [], List, length, map, if◌then◌else◌, Some, OnOk};
-ghost use Rattle.lane_b.specs.Received.{lanes_b};
+ghost use Rattle.std.specs.Prelude.{◌≡◌, ◌≤◌, ◌<◌, ◌+◌, ◌*◌, ◌++◌, ◌∷◌, [], List, All, length, map, if◌then◌else◌, Some, IfSome, IsTrue, OnOk};
+ghost use Rattle.scenario.specs.Limits.{has_words};
 ghost use Rattle.scenario.specs.declared.report_row.Row.TheVariants as row;
 ghost use Rattle.scenario.specs.Plans.{Plan, plan_of};
-ghost use Rattle.link_run.specs.LinkStates.{delivered_of};
-ghost use Rattle.link_run.specs.Printing.{HasPrinted, one_if};
-ghost use Rattle.link_model.specs.Report.{Printed, bares, decision_rows, frame_row, off_alarm, prints_all, prints_frames};
-ghost use Rattle.link_run.specs.Reported.{AreFew, HasReported, IsSeen};
-ghost use Rattle.link_run.specs.TickCounts.{entry_rows, marks_of, with_alarms, with_marks};
+ghost use Rattle.link_model.specs.Kinds.{moment_of};
 ghost use Rattle.link_model.specs.Moments.{History};
-ghost use Rattle.link_model.specs.Run.{moment};
+ghost use Rattle.link_model.specs.Report.{Printed, bares, decision_rows, enter_rows, frame_row, off_alarm, prints_all, prints_frames};
+ghost use Rattle.link_run.specs.Gathered.{Whole, delivered_of};
+ghost use Rattle.link_run.specs.Printing.{HasPrinted};
+ghost use Rattle.link_run.specs.Reported.{AreFew, AreFewFrames, HasReported, IsSeen};
+ghost use Rattle.link_run.specs.TickCounts.{entered_at, with_alarms, with_marks};
 
+use crate::frame::Frame;
 use crate::report::Report;
 use crate::ticked::Ticked;
 use bring_up::{AlarmRow, Decision};
 use jesd_base::NoMemory;
-use link_params::{Alarm, Device, Mark};
+use link_params::{Alarm, Device};
 use scenario::{Row, Scenario};
 
 // A hunt, where the receiver was reset.
@@ -26,6 +27,7 @@ fn add_reset(report: &mut Report, s: &Scenario, t: u32, reset: bool) -> Result<(
         → OnOk result (HasPrinted report.new plan (rows ++ bares (if reset then row.Hunt t ∷ [] else []))) }
     ensures counts { report.new.totals ≡ report.old.totals }
     ensures room { report.old.room ≤ report.new.room }
+    ensures size { report.new.size ≡ report.old.size }
 {
     if reset {
         report.row(s, &Row::Hunt(t), &[])
@@ -51,6 +53,7 @@ fn add_off(
         (length (off_alarm device off)) }
     ensures few { length (off_alarm device off) ≤ 1 }
     ensures room { report.old.room ≤ report.new.room }
+    ensures size { report.new.size ≡ report.old.size }
 {
     match off {
         Some(off) => report.alarm(s, t, Alarm::SysrefPhase { device, off }),
@@ -58,28 +61,38 @@ fn add_off(
     }
 }
 
-// The frame that began, where one did.
-fn add_entry(
+// The frames of which tick `t` has the first octet, where it carries data at this place.
+fn add_entries(
     report: &mut Report,
     s: &Scenario,
     t: u32,
-    begins: bool,
-    entered: &[u32],
+    place: Option<u32>,
 ) -> Result<(), NoMemory>
-    requires count { report.old.totals.entered < 4294967295 }
-    requires room { 128 + 9 * length entered.now ≤ report.old.room }
+    requires tick { t < 1048576 }
+    requires place { IfSome place (λ x. x < 1024) }
+    requires count { report.old.totals.entered + 8 ≤ 4294967295 }
+    requires size { report.old.size ≡ s.now.shape.m * s.now.shape.s }
+    requires room { 128 + 9 * report.old.size ≤ report.old.room }
+    requires some { IsTrue (has_words s.now.input) }
     ensures printed { (plan : Plan) (rows : List Printed) → plan_of s.now ≡ Some plan
         → HasPrinted report.old plan rows
-        → OnOk result (HasPrinted report.new plan (rows ++ (if prints_all plan.print then entry_rows begins t entered.now else []))) }
-    ensures counts { report.new.totals
-        ≡ record report.old.totals { entered = report.old.totals.entered + one_if begins } }
+        → OnOk result (HasPrinted report.new plan (rows ++ (if prints_all plan.print then enter_rows plan report.old.totals.entered (entered_at plan.link.params t place) else []))) }
+    ensures counts { OnOk result (report.new.totals ≡ record report.old.totals {
+      entered = report.old.totals.entered + length (entered_at s.now.shape t place);
+    }) }
+    ensures few { length (entered_at s.now.shape t place) ≤ 8 }
     ensures room { report.old.room ≤ report.new.room }
+    ensures size { report.new.size ≡ report.old.size }
 {
-    if begins {
-        report.enter(s, t, entered)
-    } else {
-        Ok(())
+    let Some(place) = place else { return Ok(()) };
+    let per_tick = s.shape.octets_per_tick();
+    let size = s.shape.frame_octets();
+    for j in 0..per_tick {
+        if (per_tick * place + j) % size == 0 {
+            report.enter(s, per_tick * t + j)?;
+        }
     }
+    Ok(())
 }
 
 // The alarms of a decision, in their order.
@@ -91,6 +104,7 @@ fn add_alarms(report: &mut Report, s: &Scenario, t: u32, alarms: &AlarmRow) -> R
         → OnOk result (HasPrinted report.new plan (rows ++ bares (map (row.Alarm t) alarms.now))) }
     ensures counts { OnOk result (report.new.totals ≡ with_alarms report.old.totals (length alarms.now)) }
     ensures room { report.old.room ≤ report.new.room }
+    ensures size { report.new.size ≡ report.old.size }
 {
     for i in 0..alarms.len() {
         report.alarm(s, t, alarms.get(i))?;
@@ -111,6 +125,7 @@ fn add_decision(
         → OnOk result (HasPrinted report.new plan (rows ++ bares (decision_rows t decision))) }
     ensures counts { report.new.totals ≡ report.old.totals }
     ensures room { report.old.room ≤ report.new.room }
+    ensures size { report.new.size ≡ report.old.size }
 {
     match decision {
         Decision::Stay => Ok(()),
@@ -120,61 +135,75 @@ fn add_decision(
     }
 }
 
-// The frame that left, where one did.
-fn add_frame(
+// The frames that left; `end`: the octet time after the tick, `begun`: how many octets of each lane
+// came behind the last of them.
+fn add_frames(
     report: &mut Report,
     s: &Scenario,
-    left: u32,
-    mark: Option<Mark>,
-    delivered: &[u32],
+    end: u32,
+    frames: &[Frame],
+    begun: u32,
 ) -> Result<(), NoMemory>
-    requires count { report.old.totals.delivered < 4294967295 }
-    requires marks { (report.old.totals.ok < 4294967295) × (report.old.totals.fixed < 4294967295)
-        × (report.old.totals.bad < 4294967295) }
-    requires room { 128 + 9 * length delivered.now ≤ report.old.room }
+    requires end { end ≤ 8388608 }
+    requires few { length frames.now ≤ 8 }
+    requires begun { begun ≤ 256 }
+    requires counts { AreFewFrames report.old.totals (8 * 1048576) }
+    requires words { All (λ (f : Whole). 128 + 9 * length f.words ≤ report.old.room) frames.now }
     ensures printed { (plan : Plan) (rows : List Printed) → plan_of s.now ≡ Some plan
         → HasPrinted report.old plan rows
-        → OnOk result (HasPrinted report.new plan (rows ++ (if prints_frames plan.print then map frame_row (delivered_of mark left delivered.now) else []))) }
-    ensures counts { report.new.totals ≡ with_marks report.old.totals (marks_of mark) }
+        → OnOk result (HasPrinted report.new plan (rows ++ (if prints_frames plan.print then map frame_row (delivered_of plan.link.params end frames.now begun) else []))) }
+    ensures counts { OnOk result (report.new.totals ≡ with_marks report.old.totals (map (λ (f : Whole). f.mark) frames.now)) }
     ensures room { report.old.room ≤ report.new.room }
+    ensures size { report.new.size ≡ report.old.size }
 {
-    match mark {
-        Some(mark) => report.frame(s, left, mark, delivered),
-        None => Ok(()),
+    let size = s.shape.frame_octets();
+    let after = begun + frames.len() as u32 * size;
+    let mut next = end;
+    for frame in frames {
+        report.frame(s, next.saturating_sub(after), frame.mark, &frame.words)?;
+        next += size;
     }
+    Ok(())
 }
 
 /// Adds the rows of tick `t`, in their order, and counts it: the hunt of a receiver's reset, edges
-/// off a boundary, the frame that began, the alarms of the decision, the decision, and the frame
-/// that left. `entered` and `delivered` are the words of these frames, M·S each.
+/// off a boundary, the frames that began, the alarms of the decision, the decision, and the frames
+/// that left. `frames` are those that left, and `begun` is how many octets of each lane came behind
+/// the last of them.
 pub fn report_tick(
     report: &mut Report,
     s: &Scenario,
     t: u32,
     seen: &Ticked,
-    entered: &[u32],
     alarms: &AlarmRow,
-    delivered: &[u32],
+    frames: &[Frame],
+    begun: u32,
 ) -> Result<(), NoMemory>
     requires tick { t < 1048576 }
     requires few { AreFew report.old.totals t }
     requires alarms { length alarms.now ≤ 34 }
-    requires entered { 128 + 9 * length entered.now ≤ report.old.room }
-    requires delivered { 128 + 9 * length delivered.now ≤ report.old.room }
+    requires place { IfSome seen.now.place (λ x. x < 1024) }
+    requires size { report.old.size ≡ s.now.shape.m * s.now.shape.s }
+    requires room { 128 + 9 * report.old.size ≤ report.old.room }
+    requires some { IsTrue (has_words s.now.input) }
+    requires frames { length frames.now ≤ 8 }
+    requires words { All (λ (f : Whole). 128 + 9 * length f.words ≤ report.old.room) frames.now }
+    requires begun { begun ≤ 256 }
     ensures reported { (plan : Plan) (h : History) → plan_of s.now ≡ Some plan
         → HasReported report.old plan h → t ≡ length h
-        → IsSeen seen.now entered.now alarms.now delivered.now plan h → OnOk result (HasReported report.new plan (h ++ moment lanes_b plan h ∷ [])) }
+        → IsSeen seen.now alarms.now frames.now begun plan h → OnOk result (HasReported report.new plan (h ++ moment_of plan h ∷ [])) }
     ensures few { OnOk result (AreFew report.new.totals (t + 1)) }
     ensures room { report.old.room ≤ report.new.room }
+    ensures size { report.new.size ≡ report.old.size }
 {
     add_reset(report, s, t, seen.rx_reset)?;
     add_off(report, s, t, Device::Tx, seen.tx_off)?;
     add_off(report, s, t, Device::Rx, seen.rx_off)?;
-    add_entry(report, s, t, seen.begins, entered)?;
+    add_entries(report, s, t, seen.place)?;
     add_alarms(report, s, t, alarms)?;
     add_decision(report, s, t, seen.decision)?;
-    let left = (t + 1).saturating_sub(s.shape.frame_octets());
-    add_frame(report, s, left, seen.mark, delivered)?;
+    let end = s.shape.octets_per_tick() * (t + 1);
+    add_frames(report, s, end, frames, begun)?;
     report.tick(seen.fullest);
     Ok(())
 }

@@ -1,13 +1,10 @@
 //! A run, tick by tick.
-ghost use Rattle.std.specs.Prelude.{◌≡◌, ◌<◌, ◌+◌, IfOk, OnOk, IsTrue, is_some, Some, []};
-ghost use Rattle.std.specs.Option.{ForSome};
-ghost use Rattle.link_params.specs.declared.fields.Mode.TheVariants.{B};
-ghost use Rattle.lane_b.specs.Received.{lanes_b};
+ghost use Rattle.std.specs.Prelude.{◌≡◌, ◌<◌, ◌+◌, ◌*◌, IfOk, OnOk, IsTrue, is_some, Some, []};
 ghost use Rattle.scenario.specs.Plans.{Plan, plan_of};
 ghost use Rattle.link_run.specs.LinkStates.{HasRun};
-ghost use Rattle.link_model.specs.Report.{report, totals};
+ghost use Rattle.link_model.specs.Kinds.{report_of, run_of};
+ghost use Rattle.link_model.specs.Report.{totals};
 ghost use Rattle.link_run.specs.Reported.{AreFew, HasReported};
-ghost use Rattle.link_model.specs.Run.{run as history};
 
 use crate::link_state::LinkState;
 use crate::report::Report;
@@ -29,11 +26,10 @@ pub struct Ran {
 /// the report or the link gets no memory.
 pub fn run(alloc: Global, s: &Scenario) -> Result<Ran, NoMemory>
     requires link { IsTrue (is_some s.now.link) }
-    requires mode { ForSome s.now.link (λ k. k.params.mode ≡ B) }
     ensures text { (plan : Plan) → plan_of s.now ≡ Some plan
-        → IfOk result (λ r. r.text.items ≡ report lanes_b plan) }
+        → IfOk result (λ r. r.text.items ≡ report_of plan) }
     ensures totals { (plan : Plan) → plan_of s.now ≡ Some plan
-        → IfOk result (λ r. r.totals ≡ totals plan (history lanes_b plan plan.ticks)) }
+        → IfOk result (λ r. r.totals ≡ totals plan (run_of plan plan.ticks)) }
 {
     let Some(link) = s.link else { unreachable!() };
     let mut state = LinkState::open(alloc, s, &link)?;
@@ -54,6 +50,7 @@ fn open_report(alloc: Global, s: &Scenario) -> Result<Report, NoMemory>
     ensures reported { (plan : Plan) → plan_of s.now ≡ Some plan
         → IfOk result (λ r. HasReported r plan []) }
     ensures few { IfOk result (λ r. AreFew r.totals 0) }
+    ensures size { IfOk result (λ r. r.size ≡ s.now.shape.m * s.now.shape.s) }
 {
     let mut report = Report::open(alloc, s)?;
     report.row(s, &Row::Link, &[])?;
@@ -71,26 +68,21 @@ fn run_tick(
     requires tick { t < s.now.ticks }
     requires link { s.now.link ≡ Some state.old.link }
     requires stands { (plan : Plan) → plan_of s.now ≡ Some plan
-        → HasRun state.old plan (history lanes_b plan t) }
+        → HasRun state.old plan (run_of plan t) }
     requires reported { (plan : Plan) → plan_of s.now ≡ Some plan
-        → HasReported report.old plan (history lanes_b plan t) }
+        → HasReported report.old plan (run_of plan t) }
     requires few { AreFew report.old.totals t }
+    requires size { report.old.size ≡ s.now.shape.m * s.now.shape.s }
     ensures stands { (plan : Plan) → plan_of s.now ≡ Some plan
-        → HasRun state.new plan (history lanes_b plan (t + 1)) }
+        → HasRun state.new plan (run_of plan (t + 1)) }
     ensures reported { (plan : Plan) → plan_of s.now ≡ Some plan
-        → OnOk result (HasReported report.new plan (history lanes_b plan (t + 1))) }
+        → OnOk result (HasReported report.new plan (run_of plan (t + 1))) }
     ensures few { OnOk result (AreFew report.new.totals (t + 1)) }
+    ensures size { report.new.size ≡ report.old.size }
     ensures same { state.new.link ≡ state.old.link }
 {
     let most = report.totals().fullest;
     let seen = state.tick(s, t, most);
-    report_tick(
-        report,
-        s,
-        t,
-        &seen,
-        state.entered(),
-        state.alarms(),
-        state.delivered(),
-    )
+    let (frames, begun) = state.delivered();
+    report_tick(report, s, t, &seen, state.alarms(), frames, begun)
 }

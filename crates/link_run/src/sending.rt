@@ -1,35 +1,35 @@
 //! What the transmitter sends, tick by tick.
-ghost use Rattle.std.specs.Prelude.{◌≡◌, ◌≤◌, ◌<◌, ◌+◌, ◌%◌, ◌++◌, ◌∷◌, [], false, List, None};
+ghost use Rattle.std.specs.Prelude.{◌≡◌, ◌≤◌, ◌<◌, [], List, None, IfSome};
 ghost use Rattle.link_params.specs.declared.fields.Params.{Params as ParamsValue};
-ghost use Rattle.link_params.specs.declared.fields.Mode.TheVariants.{B};
 ghost use Rattle.link_params.specs.Numbers.{period as period_of};
-ghost use Rattle.lane_b.specs.Senders.{Follows, next_place};
-ghost use Rattle.link_model.specs.Orders.{Observed, tx_order};
-ghost use Rattle.link_run.specs.Sendings.{GoesOnTo, HasObserved, next_of};
+ghost use Rattle.link_model.specs.Orders.{Observed};
+ghost use Rattle.link_model.specs.Sends.{data_place};
+ghost use Rattle.link_run.specs.Sendings.{BlocksGoOn, GoesOnTo, HasObserved, next_of};
 
-use link_params::TxOrder;
+use crate::alignment::{Alignment, place_after};
+use link_params::{Mode, TxOrder};
 
-/// Where a transmitter of 8b/10b lanes stands (JESD204B.01 clauses 5.3.3.1, code group
-/// synchronization, and 5.3.3.5, initial lane alignment).
+/// Where a transmitter stands.
 #[derive(Clone, Copy, Debug, PartialEq, Eq)]
 pub enum Sending {
-    /// It has not seen SYNC~ low since its reset, and sends /K/.
-    Idle,
-    /// It has seen SYNC~ low, and sends /K/ until the next boundary at which it is high.
-    Synchronizing,
-    /// It sent this place of the alignment sequence.
-    Aligning(u32),
-    /// It sent data at this place of a multiframe.
-    Streaming(u32),
+    /// 8b/10b lanes.
+    Octets(Alignment),
+    /// 64b/66b lanes (JESD204C.1, 64b/66b link layer): the place of the last block in its extended
+    /// multiblock. Before the first SYSREF edge since the reset there is none, and zero bits are
+    /// sent.
+    Blocks(Option<u32>),
 }
 
 impl Sending {
-    /// A transmitter that was just reset.
-    pub fn new() -> Sending
-        ensures begins { (p : ParamsValue) → HasObserved result p [] }
+    /// A transmitter of this mode that was just reset.
+    pub fn new(mode: Mode) -> Sending
+        ensures begins { (p : ParamsValue) → p.mode ≡ mode → HasObserved result p [] }
         ensures next { (p : ParamsValue) → next_of p result ≡ None }
     {
-        Sending::Idle
+        match mode {
+            Mode::B => Sending::Octets(Alignment::new()),
+            Mode::CCrc | Mode::CFec => Sending::Blocks(None),
+        }
     }
 
     /// The order of the next tick, at this phase of the transmitter's clock, where it sees SYNC~
@@ -37,68 +37,46 @@ impl Sending {
     pub fn tick(&mut self, period: u32, phase: Option<u32>, low: bool) -> TxOrder
         requires short { 1 ≤ period }
         requires long { period ≤ 1024 }
-        ensures order { (p : ParamsValue) (observed : List Observed) → p.mode ≡ B
-            → period_of p ≡ period → HasObserved self.old p observed
-            → result ≡ tx_order p (observed ++ (record { phase = phase; low = low }) ∷ []) }
-        ensures goes_on { (p : ParamsValue) (observed : List Observed) → p.mode ≡ B
-            → period_of p ≡ period → HasObserved self.old p observed
-            → HasObserved self.new p (observed ++ (record { phase = phase; low = low }) ∷ []) }
-        ensures follows { (p : ParamsValue) (observed : List Observed) → p.mode ≡ B
-            → period_of p ≡ period → HasObserved self.old p observed
-            → Follows p (next_of p self.old) result }
-        ensures next { (p : ParamsValue) (observed : List Observed) → p.mode ≡ B
-            → period_of p ≡ period → HasObserved self.old p observed
-            → next_of p self.new ≡ next_place p result }
-    {
-        if low {
-            *self = Sending::Synchronizing;
-            return TxOrder::Comma;
-        }
-        let (sending, order) = self.next(period, phase);
-        *self = sending;
-        order
-    }
-
-    // What comes next where SYNC~ is seen high.
-    fn next(self, period: u32, phase: Option<u32>) -> (Sending, TxOrder)
-        requires short { 1 ≤ period }
-        requires long { period ≤ 1024 }
-        ensures { (p : ParamsValue) (observed : List Observed) → p.mode ≡ B → period_of p ≡ period
-            → HasObserved self p observed
-            → GoesOnTo self result.0 p observed (record { phase = phase; low = false }) result.1 }
+        ensures goes_on { (p : ParamsValue) (observed : List Observed) → period_of p ≡ period
+            → HasObserved self.old p observed
+            → GoesOnTo self.old self.new p observed (record { phase = phase; low = low }) result }
+        ensures place { IfSome (data_place result) (λ x. x < period) }
     {
         match self {
-            Sending::Idle => (Sending::Idle, TxOrder::Comma),
-            Sending::Synchronizing if phase == Some(0) => (Sending::Aligning(0), TxOrder::Ilas(0)),
-            Sending::Synchronizing => (Sending::Synchronizing, TxOrder::Comma),
-            Sending::Aligning(x) if x < 4 * period - 1 => {
-                (Sending::Aligning(x + 1), TxOrder::Ilas(x + 1))
-            }
-            Sending::Aligning(_) => (
-                Sending::Streaming(0),
-                TxOrder::Data {
-                    place: 0,
-                    first: true,
-                },
-            ),
-            Sending::Streaming(x) => {
-                let place = place_after(x, period);
-                (
-                    Sending::Streaming(place),
-                    TxOrder::Data {
-                        place,
-                        first: false,
-                    },
-                )
+            Sending::Octets(alignment) => alignment.tick(period, phase, low),
+            Sending::Blocks(last) => {
+                let (place, order) = next_block(*last, period, phase);
+                *last = place;
+                order
             }
         }
     }
 }
 
-// The place after place x of a multiframe.
-fn place_after(x: u32, period: u32) -> u32
-    requires { 1 ≤ period }
-    ensures { x < period → result ≡ (x + 1) % period }
+// The place and the order of a 64b/66b lane's next tick.
+fn next_block(last: Option<u32>, period: u32, phase: Option<u32>) -> (Option<u32>, TxOrder)
+    requires short { 1 ≤ period }
+    requires long { period ≤ 1024 }
+    ensures goes_on { (p : ParamsValue) (observed : List Observed) → period_of p ≡ period
+        → BlocksGoOn last result.0 p observed phase result.1 }
+    ensures place { IfSome (data_place result.1) (λ x. x < period) }
 {
-    if x < period - 1 { x + 1 } else { 0 }
+    match last {
+        Some(x) => {
+            let place = place_after(x, period);
+            let order = TxOrder::Block {
+                place,
+                first: false,
+            };
+            (Some(place), order)
+        }
+        None if phase.is_some() => {
+            let order = TxOrder::Block {
+                place: 0,
+                first: true,
+            };
+            (Some(0), order)
+        }
+        None => (None, TxOrder::Silent),
+    }
 }

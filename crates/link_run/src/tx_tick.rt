@@ -8,8 +8,6 @@ pub struct TxTick {
     pub off: Option<u32>,
     /// What each lane sends.
     pub order: TxOrder,
-    /// The place in its frame of the octets that are handed in, where the order is data.
-    pub at: Option<u32>,
-    /// A source frame begins.
-    pub begins: bool,
+    /// The place in the multiframe or extended multiblock, where the order is data.
+    pub place: Option<u32>,
 }

@@ -1,4 +1,5 @@
 use Rattle.link_laws_c.proofs.LaneLawsHold.{bound-c, depth-c, fullest-c, lane-laws-c, latency-c, outside-c}
+use Rattle.link_laws_c.proofs.MarkedCells.{marks-c}
 use Rattle.link_laws_c.proofs.lane_laws.lane_laws_of_lanes_c.Goals as goal
 
 pub returns : goal.returns
@@ -8,6 +9,6 @@ returns c = record {
   bound = bound-c;
   depth = depth-c;
   fullest = fullest-c;
-  outside =
-      outside-c;
+  outside = outside-c;
+  marks = marks-c;
 }

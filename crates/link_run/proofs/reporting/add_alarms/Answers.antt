@@ -1,4 +1,4 @@
-use Rattle.std.proofs.Common.{◌≡◌, ◌+◌, refl, arith}
+use Rattle.std.proofs.Common.{◌≡◌, ◌+◌, ◌∙◌, refl, arith}
 use Rattle.link_run.proofs.TickRows.{alarm-rows-more}
 use Rattle.link_run.proofs.reporting.add_alarms.Goals as goal
 
@@ -19,4 +19,5 @@ loop-i-preserved c =
       λ plan rows is printed.
           rw (alarm-rows-more c.args.alarms.now rows c.args.t c.loop-i.i c.get.result c.get.ensures)
           (more.printed plan _ is (kept.4 plan rows is printed)),
+      more.size ∙ kept.5,
     )

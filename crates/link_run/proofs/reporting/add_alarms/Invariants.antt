@@ -15,3 +15,4 @@ invariant-loop-i l =
     × ((plan : Plan) → (rows : List Printed) → plan_of l.s ≡ Some plan
     → HasPrinted l.fn.report plan rows
     → HasPrinted l.report plan (rows ++ bares (map (row.Alarm l.t) (take l.i l.alarms))))
+    × (l.report.size ≡ l.fn.report.size)

@@ -1,40 +1,58 @@
-use Rattle.std.proofs.Common.{◌≡◌, ◌∙◌, ◌+◌, ◌*◌, add-one, ap, sym}
-use Rattle.lane_b.specs.Received.{lanes_b}
+use Rattle.std.proofs.Common.{◌≡◌, ◌∙◌, ◌+◌, ◌*◌, ◌≤◌, length, ap, arith, sym, subst}
+use Rattle.std.specs.Prelude.{All}
+use Rattle.link_model.proofs.RunTicks.{length-run}
+use Rattle.link_model.specs.Kinds.{kind_of, run_of}
 use Rattle.link_model.specs.Report.{totals}
+use Rattle.link_run.specs.Gathered.{Whole}
 use Rattle.link_run.specs.Reported.{IsSeen}
-use Rattle.link_model.specs.Run.{run as history}
+use Rattle.link_run.proofs.FeedLemmas.{same_params}
 use Rattle.link_run.proofs.LaneStates.{plan-there}
-use Rattle.link_model.proofs.TxHistory.{length-run, run-more}
+use Rattle.link_run.proofs.TickFacts.{run-next}
 use Rattle.link_run.proofs.runs.run_tick.Goals as goal
+use Rattle.link_run.proofs.runs.run_tick.Goals.{Start}
+
+-- a line has room for the words of a frame
+room-for : (c : Start) → 128 + 9 * c.args.report.now.size ≤ c.args.report.now.room
+room-for c =
+    let (plan, is) = plan-there c.args.s.now c.args.state.now.link c.requires.link in
+    let room = (c.requires.reported plan is).printed.room in
+    let size = ap (λ p. p.m * p.s) (same_params c.args.s.now plan is) ∙ sym c.requires.size in
+    rw size at room
 
 pub tick-seen-requires-clause-most : goal.tick-seen-requires-clause-most
 unfolding totals
 tick-seen-requires-clause-most c =
     λ plan is. ap (λ n. n.fullest) (c.totals-most.ensures ∙ (c.requires.reported plan is).counts)
 
-pub report_tick-requires-clause-entered : goal.report_tick-requires-clause-entered
-report_tick-requires-clause-entered c =
-    let (plan, is) = plan-there c.args.s.now c.args.state.now.link c.requires.link in
-    let same = (c.tick-seen.ensures.goes_on plan is).tx.feed.same_params in
-    let size = c.entered.ensures.size ∙ ap (λ p. p.m * p.s) same in
-    rw size (c.requires.reported plan is).printed.room
+pub report_tick-requires-clause-room : goal.report_tick-requires-clause-room
+report_tick-requires-clause-room c = room-for (goal.at.report_tick-requires-clause-room c).Start
 
-pub report_tick-requires-clause-delivered : goal.report_tick-requires-clause-delivered
-report_tick-requires-clause-delivered c =
-    let (plan, is) = plan-there c.args.s.now c.args.state.now.link c.requires.link in
-    let same = (c.tick-seen.ensures.goes_on plan is).gathered.same_params in
-    let size = c.delivered.ensures.size ∙ ap (λ p. p.m * p.s) same in
-    rw size (c.requires.reported plan is).printed.room
+pub report_tick-requires-clause-some : goal.report_tick-requires-clause-some
+report_tick-requires-clause-some c =
+    c.args.s.now.some_words c.args.state.now.link c.requires.link
+
+pub report_tick-requires-clause-words : goal.report_tick-requires-clause-words
+report_tick-requires-clause-words c = λ k d below.
+    let room = room-for (goal.at.report_tick-requires-clause-words c).Start in
+    let words = subst (All (λ (f : Whole). length f.words
+    ≡ c.args.s.now.shape.m * c.args.s.now.shape.s)) (sym c.delivered-begun.ensures.frames)
+    c.tick-seen.ensures.words in
+    rw (words k d below ∙ sym c.requires.size) room
+
+pub report_tick-requires-clause-begun : goal.report_tick-requires-clause-begun
+report_tick-requires-clause-begun c =
+    rw c.delivered-begun.ensures.begun c.tick-seen.ensures.begun
 
 pub returns-clause-reported : goal.returns-clause-reported
 returns-clause-reported c = λ plan is.
     let t = c.args.t in
-    let h = history lanes_b plan t in
-    let more : history lanes_b plan (t + 1) ≡ _ = ap (history lanes_b plan) (add-one t)
-    ∙ run-more t plan in
-    let seen : IsSeen c.tick-seen.result c.entered.result.now c.alarms.result.now
-    c.delivered.result.now plan h =
-    rw (c.entered.ensures.words, c.alarms.ensures.alarms, c.delivered.ensures.words)
-    (c.tick-seen.ensures.seen plan is) in
-    rw more (c.report_tick.ensures.reported plan h is (c.requires.reported plan is)
-    (sym (length-run t plan)) seen)
+    let h = run_of plan t in
+    let seen : IsSeen c.tick-seen.result c.alarms.result.now c.delivered-begun.result.0.now
+    c.delivered-begun.result.1 plan h =
+    rw (
+      c.delivered-begun.ensures.frames,
+      c.delivered-begun.ensures.begun,
+      c.alarms.ensures.alarms,
+    ) (c.tick-seen.ensures.seen plan is) in
+    rw (run-next t plan) (c.report_tick.ensures.reported plan h is (c.requires.reported plan is)
+    (sym (length-run (kind_of plan.link.params) plan t)) seen)

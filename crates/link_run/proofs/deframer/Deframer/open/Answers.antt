@@ -2,5 +2,5 @@ use Rattle.std.proofs.Common.{refl}
 use Rattle.link_run.proofs.Gathering.{gathered-nothing}
 use Rattle.link_run.proofs.deframer.Deframer.open.Goals as goal
 
-pub returns : goal.returns
-returns c = gathered-nothing _ _ refl refl refl
+pub returns-clause-begins : goal.returns-clause-begins
+returns-clause-begins c = gathered-nothing _ _ refl refl refl

@@ -1,19 +1,17 @@
-use Rattle.std.proofs.Common.{◌≡◌}
-use Rattle.link_run.specs.Gathered.{HasSizes, IsPutting}
+use Rattle.std.proofs.Common.{take}
+use Rattle.link_run.specs.Gathered.{HasSizes}
+use Rattle.link_run.proofs.Gathering.{IsPutting}
 use Rattle.link_run.proofs.deframer.Deframer.put.Given as goal
 
 abbrev pub invariant-loop-lane : goal.invariant-loop-lane
 invariant-loop-lane l =
     let d = l.self-inside in
-    (l.first ≡ l.fn.self.at)
-    × (l.octets ≡ l.fn.self.params.f)
-    × HasSizes d.shape d.layout d.at d.octets.items d.words.items
+    HasSizes d.shape d.layout d.per_tick d.at d.octets.items d.whole d.frames.items
     × IsPutting l.fn.self
     (record {
       params = d.shape;
       at = d.at;
       mark = d.mark;
       octets = d.octets.items;
-      words =
-          d.words.items;
-    }) l.lane l.given
+      frames = take d.whole d.frames.items;
+    }) l.given l.j l.lane

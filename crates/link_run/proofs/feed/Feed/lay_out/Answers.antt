@@ -31,7 +31,7 @@ returns-clause-octets c = λ plan is.
     (sym (c.source_frame.auto.words ∙ c.deref_mut.ensures.len)) in
     let words = c.source_frame.ensures.plan plan is ∙ ap (source_frame plan) c.from.ensures in
     let whole = ap length (c.deref.ensures.value ∙ left) ∙ c.source_frame.auto.words
-    ∙ ap length c.deref_mut.ensures.value ∙ c.self.invariant.1 in
+    ∙ ap length c.deref_mut.ensures.value ∙ c.self.invariant.words_are in
     let laid = frame_is c.args.s.now plan c.self.inside.layout c.args.number c.deref.result.now
     c.map.new.out c.layout_laws.ensures.one_frame is
     (c.requires ∙ sym (ap (λ f. f.params) c.self.view_is)) c.params-params.ensures.legal whole

@@ -1,6 +1,8 @@
 use Rattle.std.proofs.Common.{◌<◌, ◌+◌, List, ◌∙◌, ap, arith, get_or, length, subst, sym}
 use Rattle.link_run.specs.LaneRuns.{AreAt, HaveRun, Pair}
+use Rattle.link_model.specs.Kinds.{kind_of}
 use Rattle.link_model.specs.LaneRuns.{given_by}
+use Rattle.link_run.specs.LaneEnds.{buffer_in, next_in, params_in}
 use Rattle.link_run.proofs.LaneLemmas.{HasGiven, IsGiven, all-written, are-at, changed-more, changed-none, have-run, written-more, written-none}
 use Rattle.link_run.proofs.lanes.Lanes.give.Goals as goal
 
@@ -17,7 +19,7 @@ give-requires c =
     let e = c.index_mut.ensures.value ∙ c.loop-lane.invariant.changed.left c.loop-lane.lane x
     (omega arith) below
     ∙ ap (λ (l : List Pair). get_or l c.loop-lane.lane x) c.self.view_is in
-    subst (λ (q : Pair). 0 < length q.rx.buffer.cells) (sym e)
+    subst (λ (q : Pair). 0 < length (buffer_in q.rx).cells) (sym e)
     (c.requires.entries c.loop-lane.lane x (omega arith))
 
 pub loop-lane-preserved : goal.loop-lane-preserved
@@ -35,9 +37,7 @@ loop-lane-preserved c =
           c.give.new.self x (omega arith) c.index_mut.ensures.value
           (record {
             goes_on = c.give.ensures.goes_on;
-            next = c.give.ensures.next;
-            same =
-                c.give.ensures.same;
+            tx = c.give.ensures.tx;
           }) c.loop-lane.invariant.changed;
       written = written-more IsGiven lanes c.loop-lane.given c.loop-lane.lane x x c.give.result
           below (omega arith)
@@ -53,7 +53,7 @@ returns-clause-given c s runs run =
     let given = c.loop-lane.auto.given in
     let count = c.requires.count in
     all-written IsGiven c.self.inside.pairs.items c.loop-lane.given c.loop-lane.lane s runs
-    (given_by s runs) c.loop-lane.invariant.written (omega arith) (omega arith)
+    (given_by (kind_of s.link.params) s runs) c.loop-lane.invariant.written (omega arith) (omega arith)
     (subst (λ (l : List Pair). HaveRun l s runs) (sym c.self.view_is) run)
     (λ k x y done h. done.entry s k (runs k) h)
 
@@ -73,5 +73,5 @@ returns-clause-at c p next at =
     are-at HasGiven c.self.inside.pairs.items c.loop-lane.self-inside.pairs.items c.loop-lane.lane p
     next next
     c.loop-lane.invariant.changed (omega arith)
-    (λ k x y done stood. (done.same ∙ stood.0, done.next ∙ stood.1))
+    (λ k x y done stood. (ap params_in done.tx ∙ stood.0, ap next_in done.tx ∙ stood.1))
     (subst (λ (l : List Pair). AreAt l p next) (sym c.self.view_is) at)

@@ -2,6 +2,7 @@ use Rattle.std.proofs.Common.{◌≤◌, ◌+◌, ◌*◌, ◌++◌, ◌∷◌, 
 use Rattle.std.specs.Prelude.{All, if◌then◌else◌}
 use Rattle.scenario.specs.declared.plan.Flip.{Flip}
 use Rattle.link_params.specs.Links.{Link}
+use Rattle.link_params.specs.Numbers.{width}
 use Rattle.link_run.specs.LaneRuns.{Pair}
 use Rattle.link_run.proofs.LaneLemmas.{AreOpened, IsOpened, fits-within, opened-more, opened-none}
 use Rattle.link_run.proofs.lanes.Lanes.open.Goals as goal
@@ -17,7 +18,7 @@ pub loop-lane-preserved : goal.loop-lane-preserved
 loop-lane-preserved c =
     let link = c.args.link.now in
     let flips = c.args.flips.now in
-    let within = fits-within link.params c.args.ticks flips c.requires.mode c.requires.flips in
+    let within = fits-within link.params c.args.ticks flips c.requires.flips in
     let ok = c.if-is_err.ensures.negation in
     let items = c.push.ensures.items
     ∙ ap (λ b. if b then c.loop-lane.pairs.items ++ c.in_ok-pair.pair
@@ -31,8 +32,8 @@ loop-lane-preserved c =
           (opened-more (IsOpened link flips c.args.ticks) c.loop-lane.pairs.items c.loop-lane.lane
           c.in_ok-pair.pair (record {
             begins = λ s same_link same_flips same_ticks. c.in_ok-pair.ensures.begins s same_link
-                (c.in_ok-inverted.ensures.inverted s (10 * s.ticks) same_flips
-                (subst (λ t. All (λ (f : Flip). f.first + f.count ≤ 10 * t) flips)
+                (c.in_ok-inverted.ensures.inverted s (width link.params * s.ticks) same_flips
+                (subst (λ t. All (λ (f : Flip). f.first + f.count ≤ width link.params * t) flips)
                 (sym same_ticks) within));
             same = c.in_ok-pair.ensures.next.0;
             next = c.in_ok-pair.ensures.next.1;

@@ -1,16 +1,15 @@
 use Rattle.std.proofs.Common.{◌∙◌, ◌+◌, ℕ, List, if◌then◌else◌, None, sym, ap, subst}
 use Rattle.link_params.specs.declared.alarms.Device.TheVariants.{Tx, Rx}
-use Rattle.lane_b.specs.Received.{lanes_b}
 use Rattle.link_model.specs.Edges.{is_reset}
 use Rattle.link_run.specs.Happened.{are_past}
 use Rattle.link_model.specs.LaneRuns.{lane_run}
 use Rattle.link_run.specs.LaneRuns.{AreAt, Pair}
 use Rattle.link_run.specs.LinkStates.{HasRun, LinkView}
-use Rattle.link_model.specs.Run.{run}
+use Rattle.link_model.specs.Kinds.{kind_of, run_of}
 use Rattle.link_run.specs.Sendings.{next_of}
 use Rattle.link_run.proofs.FeedLemmas.{same_params}
 use Rattle.link_run.proofs.LaneStates.{as-before, have-same, plan-there, ready-is}
-use Rattle.link_model.proofs.TxHistory.{length-run}
+use Rattle.link_model.proofs.RunTicks.{length-run}
 use Rattle.link_run.proofs.link_state.LinkState.happen.Goals as goal
 
 abbrev with_both : ℕ → List Pair → LinkView → LinkView
@@ -18,28 +17,28 @@ with_both n lanes x = record x { next = n; lanes = lanes }
 
 pub happen-happened-requires-clause-from : goal.happen-happened-requires-clause-from
 happen-happened-requires-clause-from c = λ s is.
-    let stands = subst (λ x. HasRun x s (run lanes_b s c.args.t)) (sym c.self.view_is)
+    let stands = subst (λ x. HasRun x s (run_of s c.args.t)) (sym c.self.view_is)
     (c.requires.stands s is) in
-    stands.next ∙ ap (are_past s) (length-run c.args.t s)
+    stands.next ∙ ap (are_past s) (length-run (kind_of s.link.params) s c.args.t)
 
 pub happen-happened-requires-clause-lanes : goal.happen-happened-requires-clause-lanes
 happen-happened-requires-clause-lanes c =
     let (s, is) = plan-there c.args.s.now c.args.self.now.link c.requires.link in
-    let stands = subst (λ x. HasRun x s (run lanes_b s c.args.t)) (sym c.self.view_is)
+    let stands = subst (λ x. HasRun x s (run_of s c.args.t)) (sym c.self.view_is)
     (c.requires.stands s is) in
     stands.lanes.0 ∙ ap (λ p. p.l) (same_params c.args.s.now s is)
 
 pub happen-happened-requires-clause-ran : goal.happen-happened-requires-clause-ran
 happen-happened-requires-clause-ran c = λ s is.
-    let h = run lanes_b s c.args.t in
+    let h = run_of s c.args.t in
     let stands = subst (λ x. HasRun x s h) (sym c.self.view_is) (c.requires.stands s is) in
-    (λ lane. lane_run s h lane, stands.lanes, as-before s h c.args.t (length-run c.args.t s))
+    (λ lane. lane_run s h lane, stands.lanes, as-before s h c.args.t (length-run (kind_of s.link.params) s c.args.t))
 
 pub returns : goal.returns
 returns c = λ s is.
-    let h = run lanes_b s c.args.t in
+    let h = run_of s c.args.t in
     let stands = subst (λ x. HasRun x s h) (sym c.self.view_is) (c.requires.stands s is) in
-    let long = length-run c.args.t s in
+    let long = length-run (kind_of s.link.params) s c.args.t in
     let p = s.link.params in
     let tx_is = c.happen-happened.ensures.tx s is ∙ ap (is_reset s Tx) (sym long) in
     let lanes = c.happen-happened.ensures.lanes s (λ lane. lane_run s h lane) is stands.lanes

@@ -5,6 +5,7 @@ use Rattle.std.proofs.lemmas.List.Sums.{sum_by-cons}
 use Rattle.scenario.specs.declared.plan.Event.{Event}
 use Rattle.link_run.specs.Gathered.{HasGathered}
 use Rattle.link_run.specs.LaneRuns.{AreAt, HaveRun}
+use Rattle.link_model.specs.Kinds.{kind_of}
 use Rattle.link_model.specs.LaneRuns.{no_run}
 use Rattle.link_model.proofs.ColumnHistory.{columns-now-none}
 use Rattle.link_model.proofs.LaneHistory.{lane-run-none}
@@ -39,9 +40,9 @@ returns-clause-stands c = λ s is.
           (subst (λ l. AreAt l s.link.params None) lanes
           (subst (λ p. AreAt c.in_ok-lanes.lanes p None) params c.in_ok-lanes.ensures.at));
       gathered = subst (λ l. HasGathered c.in_ok-open-3.field-0 s.link.params l)
-          (sym (columns-now-none s))
+          (sym (columns-now-none (kind_of s.link.params) s))
           (subst (λ p. HasGathered c.in_ok-open-3.field-0 p []) (c.shape-2.ensures.same ∙ params)
-          c.in_ok-open-3.ensures);
+          c.in_ok-open-3.ensures.begins);
       given = sym c.in-Ok.given.ok.0 ∙ c.in-Ok.ensures.len ∙ c.lanes.ensures.value
           ∙ ap (λ p. p.l) (c.shape.ensures.same ∙ params);
     }

@@ -1,104 +1,138 @@
-use Rattle.std.proofs.Common.{◌≡◌, ◌∙◌, ◌<◌, ◌%◌, ℕ, List, [], slice_index, if◌then◌else◌, Option, Some, None, arith, sym, ap, subst, option_map}
-use Rattle.std.proofs.Math.Nat.{mod-lt}
-use Rattle.std.specs.Prelude.{IfSome}
+use Rattle.std.proofs.Common.{◌≡◌, ◌∙◌, ◌<◌, Bool, ℕ, true, false, length, List, [], get_or, slice_index, if◌then◌else◌, Option, None, arith, sym, ap, subst}
+use Rattle.std.specs.Prelude.{All}
+use Rattle.std.proofs.lemmas.List.{length-map}
 use Rattle.link_params.specs.declared.fields.Params.{Params}
-use Rattle.link_params.proofs.LawFacts.{legal_sizes}
-use Rattle.lane_b.specs.Received.{lanes_b}
+use Rattle.link_params.specs.declared.orders.TxOrder.{TxOrder}
+use Rattle.link_params.specs.declared.orders.RxOrder.{RxOrder}
+use Rattle.link_params.specs.Lanes.{Handed, LaneKind}
+use Rattle.link_params.specs.Laws.{is_b}
+use Rattle.lane_c.specs.Receivers.{IsArmedOn}
+use Rattle.scenario.specs.Plans.{Plan}
+use Rattle.link_run.specs.declared.tx_lane.TxLane.{TxLane}
+use Rattle.link_run.specs.declared.tx_lane.TxLane.TheVariants as tx
 use Rattle.link_run.specs.Gathered.{Gathering, HasGathered}
-use Rattle.link_model.specs.Before.{columns_now}
-use Rattle.link_model.specs.LaneRuns.{lane_ready}
+use Rattle.link_run.specs.LaneEnds.{HasSent, IsSmall, MayFollow, next_in, params_in}
 use Rattle.link_run.specs.LaneRuns.{Pair}
-use Rattle.link_model.specs.LaneRuns.{octet_handed}
-use Rattle.link_run.specs.LinkStates.{CanStep, LinkView}
-use Rattle.link_model.specs.Sends.{data_place}
-use Rattle.link_model.specs.Run.{run}
-use Rattle.link_model.proofs.LaneHistory.{has-hunt-run, lane-stepped}
-use Rattle.link_run.proofs.LaneStates.{IsGood, have-same, link-of, plan-there, ready-room}
-use Rattle.link_model.proofs.NextMoment.{next, told-next}
-use Rattle.link_model.proofs.TxHistory.{handed-next-b}
+use Rattle.link_run.specs.LinkStates.{CanStep, LinkView, columns_of}
+use Rattle.link_run.specs.Sendings.{Follows, FollowsOn}
+use Rattle.link_model.proofs.ArmedHistory.{armed-on, armed-run}
+use Rattle.link_model.proofs.LaneHistory.{has-hunt-run, lane-stepped, session-goes-on}
+use Rattle.link_model.proofs.NextMoment.{handed-next, lanes_of, told-next}
+use Rattle.link_model.proofs.NumberLists.{length-numbers}
+use Rattle.link_model.specs.Before.{current}
+use Rattle.link_model.specs.Kinds.{kind_of, moment_of, run_of}
+use Rattle.link_model.specs.LaneRuns.{lane_ready}
+use Rattle.link_model.specs.Moments.{History}
+use Rattle.link_model.specs.Receives.{taken_in, told_of}
+use Rattle.link_model.specs.Sends.{data_place, frames_before, handed_to}
+use Rattle.link_run.proofs.LaneStates.{have-same, link-of, plan-there}
+use Rattle.link_run.proofs.Rooms.{IsGood, ready-room}
 use Rattle.link_run.proofs.link_state.LinkState.step.Goals as goal
 
-within : (p : Params) (place : Option ℕ) → 0 < p.f
-    → IfSome (option_map (λ x. x % p.f) place) (λ a. a < p.f)
-within p None some = tt
-within p (Some x) some = mod-lt x some
+-- a lane may be given an order that follows
+may-follow : (x : TxLane) (p : Params) (lane : ℕ) (handed : List Handed) (next : Option ℕ)
+    (order : TxOrder) → HasSent x p lane handed → params_in x ≡ p → next_in x ≡ next
+    → Follows p next order → MayFollow x order
+may-follow (tx.B x) p lane handed next order sent params at follows =
+    let on : FollowsOn true p next order =
+    subst (λ (b : Bool). FollowsOn b p next order) sent.0 follows in
+    rw (params, at) on
+may-follow (tx.C x) p lane handed next order sent params at follows =
+    let on : FollowsOn false p next order =
+    subst (λ (b : Bool). FollowsOn b p next order) sent.0 follows in
+    rw at on
+
+-- each lane is handed a number
+length-handed : (s : Plan) (h : History) → length (moment_of s h).handed ≡ s.link.params.l
+length-handed s h =
+    let k : LaneKind = kind_of s.link.params in
+    ap length (handed-next k s h)
+    ∙ length-map (lanes_of s) (handed_to s (frames_before h) (data_place (moment_of s h).order))
+    ∙ length-numbers s.link.params.l 0
+
+-- where no hunt begins, the lanes stay armed
+stays-armed : (s : Plan) (t lane : ℕ) (told : RxOrder) → told ≡ (moment_of s (run_of s t)).told
+    → told.hunt ≡ false → IsArmedOn (lane_ready s (run_of s t) lane).taken told
+stays-armed s t lane told is goes =
+    let k : LaneKind = kind_of s.link.params in
+    let h : History = run_of s t in
+    let same = session-goes-on k s h (ap (λ (o : RxOrder). o.hunt) (sym is) ∙ goes) in
+    subst (IsArmedOn (taken_in (current h) lane)) (sym (is ∙ told-next k s h))
+    (subst (λ (l : History). IsArmedOn (taken_in l lane) (told_of s h)) same
+    (armed-on k s h lane (armed-run k t s)))
+
+-- a number that a lane can be handed
+is-small : (x : TxLane) (p : Params) (lane v : ℕ) (handed : List Handed) → HasSent x p lane handed
+    → (is_b p.mode ≡ true → v < 256) → IsSmall x v
+is-small (tx.B x) p lane v handed sent small = small sent.0
+is-small (tx.C x) p lane v handed sent small = tt
 
 pub step-requires-clause-follows : goal.step-requires-clause-follows
 step-requires-clause-follows c = λ lane d below.
     let (s, is) = plan-there c.args.s.now c.args.self.now.link c.requires.link in
-    let can =
-    subst (λ x. CanStep x c.args.order c.args.at c.args.told.now s (run lanes_b s c.args.t))
+    let can = subst (λ x. CanStep x c.args.order c.args.told.now s (run_of s c.args.t))
     (sym c.self.view_is) (c.requires.can s is) in
+    let within : lane < s.link.params.l = omega (arith, can.lanes.0) in
     let here = can.at_next lane d below in
-    rw (here.0, here.1) can.follows
+    may-follow (get_or c.self.inside.lanes lane d).tx s.link.params lane _ can.next c.args.order
+    (can.lanes.1 lane d within).tx here.0 here.1 can.follows
+
+pub step-requires-clause-small : goal.step-requires-clause-small
+step-requires-clause-small c = λ lane d below.
+    let (s, is) = plan-there c.args.s.now c.args.self.now.link c.requires.link in
+    let can = subst (λ x. CanStep x c.args.order c.args.told.now s (run_of s c.args.t))
+    (sym c.self.view_is) (c.requires.can s is) in
+    let within : lane < s.link.params.l = omega (arith, can.lanes.0) in
+    let handed = ap (λ xs. slice_index xs lane) c.handed.ensures.handed in
+    let long = ap length can.handed ∙ length-handed s (run_of s c.args.t) in
+    let inside : lane < length c.self.inside.tx.handed = omega arith in
+    is-small (get_or c.self.inside.lanes lane d).tx s.link.params lane _ _
+    (can.lanes.1 lane d within).tx
+    (λ b. rw handed (can.small b lane 0 inside))
 
 pub step-requires-clause-room : goal.step-requires-clause-room
-step-requires-clause-room c = λ goes lane d below.
+step-requires-clause-room c = λ goes.
     let (s, is) = plan-there c.args.s.now c.args.self.now.link c.requires.link in
-    let h = run lanes_b s c.args.t in
-    let can = subst (λ x. CanStep x c.args.order c.args.at c.args.told.now s h) (sym c.self.view_is)
+    let h = run_of s c.args.t in
+    let can = subst (λ x. CanStep x c.args.order c.args.told.now s h) (sym c.self.view_is)
     (c.requires.can s is) in
     let link = ap (λ x. x.link) c.self.view_is
     ∙ link-of c.args.s.now c.args.self.now.link s c.requires.link is in
     let good : IsGood c.self.inside.link =
-    record {
-      laws = c.shape-shape.ensures.legal;
-      timing = c.timing-timing.ensures.legal;
-      mode =
-          c.self.invariant;
-    } in
-    ready-room c.self.inside.lanes s c.args.t lane d (subst IsGood link good) can.lanes below
-    (ap (λ x. x.hunt) (sym (can.told_is ∙ told-next s h)) ∙ goes)
+    record { laws = c.shape-shape.ensures.legal; timing = c.timing-timing.ensures.legal } in
+    ready-room c.self.inside.lanes s c.args.t (subst IsGood link good) can.lanes
+    (ap (λ x. x.hunt) (sym (can.told_is ∙ told-next (kind_of s.link.params) s h)) ∙ goes)
 
 pub step-requires-clause-lanes : goal.step-requires-clause-lanes
 step-requires-clause-lanes c =
     let (s, is) = plan-there c.args.s.now c.args.self.now.link c.requires.link in
-    let can =
-    subst (λ x. CanStep x c.args.order c.args.at c.args.told.now s (run lanes_b s c.args.t))
+    let can = subst (λ x. CanStep x c.args.order c.args.told.now s (run_of s c.args.t))
     (sym c.self.view_is) (c.requires.can s is) in
-    let feed = ap (λ x. x.params.l) c.feed.ensures ∙ ap (λ p. p.l) can.feed.same_params in
-    let lanes = can.lanes.0 in
-    omega arith
-
-pub step-requires-clause-place : goal.step-requires-clause-place
-step-requires-clause-place c =
-    let (s, is) = plan-there c.args.s.now c.args.self.now.link c.requires.link in
-    let can =
-    subst (λ x. CanStep x c.args.order c.args.at c.args.told.now s (run lanes_b s c.args.t))
-    (sym c.self.view_is) (c.requires.can s is) in
-    let link = ap (λ x. x.link) c.self.view_is
-    ∙ link-of c.args.s.now c.args.self.now.link s c.requires.link is in
-    let some = (legal_sizes c.self.inside.link.params c.shape-shape.ensures.legal).f_low in
-    let here : 0 < s.link.params.f = subst (λ k. 0 < k.params.f) link (omega arith) in
-    let params = ap (λ x. x.params) c.feed.ensures ∙ can.feed.same_params in
-    rw (can.at_is, params) (within s.link.params (data_place c.args.order) here)
+    let long = ap length (c.handed.ensures.handed ∙ can.handed)
+    ∙ length-handed s (run_of s c.args.t) in
+    omega (arith, can.lanes.0)
 
 abbrev with_two : List Pair → Gathering → LinkView → LinkView
 with_two lanes g x = record x { lanes = lanes; gathering = g }
 
 pub returns : goal.returns
 returns c = λ s is.
-    let h = run lanes_b s c.args.t in
+    let h = run_of s c.args.t in
+    let k = kind_of s.link.params in
     let p = s.link.params in
-    let can = subst (λ x. CanStep x c.args.order c.args.at c.args.told.now s h) (sym c.self.view_is)
+    let can = subst (λ x. CanStep x c.args.order c.args.told.now s h) (sym c.self.view_is)
     (c.requires.can s is) in
-    let link = ap (λ x. x.link) c.self.view_is
-    ∙ link-of c.args.s.now c.args.self.now.link s c.requires.link is in
-    let mode = ap (λ k. k.params.mode) (sym link) ∙ c.self.invariant in
-    let params = ap (λ x. x.params) c.feed.ensures ∙ can.feed.same_params in
-    let octets = ap (λ x. x.octets) c.feed.ensures ∙ can.feed.frame in
-    let begun = has-hunt-run c.args.t s in
+    let begun = has-hunt-run k c.args.t s in
     record {
       lanes = have-same _ s _ _ (λ lane below.
-          let octet : octet_handed c.feed.result.now.params c.feed.result.now.octets c.args.at lane
-          ≡ slice_index (next s h).handed lane =
-          rw (params, octets, can.at_is, can.order_is) (sym (handed-next-b s h lane mode below)) in
-          rw (octet, can.order_is, can.told_is) (lane-stepped s h lane begun below))
-          (c.step.ensures.goes_on s (λ lane. lane_ready s h lane) can.lanes);
+          rw (c.handed.ensures.handed, can.handed, can.order_is, can.told_is)
+          (lane-stepped k s h lane begun below))
+          (c.step.ensures.goes_on s (λ lane. lane_ready s h lane) can.lanes
+          (λ goes lane below. stays-armed s c.args.t lane c.args.told.now can.told_is goes));
       at = c.step.ensures.at p can.next can.at_next;
       gathered =
-          subst (λ b. HasGathered c.clear_frame.new.deframer p (if b then [] else columns_now s h))
+          subst (λ b. HasGathered c.clear_frame.new.deframer p (if b then [] else columns_of s h))
           (ap (λ x. x.hunt) can.told_is)
-          (c.clear_frame.ensures.gathered p (columns_now s h) can.gathered);
+          (c.clear_frame.ensures.gathered p (columns_of s h) can.gathered);
       same = ap (with_two c.step.new.self c.clear_frame.new.deframer) c.self.view_is;
     }

@@ -4,54 +4,47 @@ use Rattle.std.specs.List.{All}
 use Rattle.link_params.specs.declared.lane_report.LaneReport.{LaneReport}
 use Rattle.bring_up.specs.Controls.{HasDecided, NamesOctet}
 use Rattle.bring_up.specs.Decisions.{decide_at}
-use Rattle.lane_b.specs.Received.{lanes_b, report_b}
+use Rattle.link_params.specs.Lanes.{LaneKind}
 use Rattle.scenario.specs.Plans.{Plan, numbers_from}
-use Rattle.link_model.specs.Run.{run}
+use Rattle.link_model.specs.Moments.{History}
+use Rattle.link_model.specs.Kinds.{kind_of, moment_of, run_of}
 use Rattle.link_model.specs.LaneRuns.{lane_stepped}
 use Rattle.link_run.specs.LaneRuns.{HaveRun, Pair}
 use Rattle.link_model.specs.LaneRuns.{LaneRun}
 use Rattle.link_run.specs.ReceiverRuns.{HasToldTick, decisions_left}
 use Rattle.link_model.proofs.Depth.{length-reports}
 use Rattle.link_run.proofs.FeedLemmas.{some_plan}
-use Rattle.link_model.proofs.LaneHistory.{has-hunt-run, took-stepped}
+use Rattle.link_model.proofs.LaneHistory.{has-hunt-run}
 use Rattle.link_run.proofs.NamedOctets.{names-octets}
-use Rattle.link_model.proofs.NextMoment.{lanes_of, next, reports-next, took}
-use Rattle.link_model.proofs.NumberLists.{map-numbers}
+use Rattle.link_model.proofs.NextMoment.{lanes_of, reports-next, took}
 use Rattle.link_model.proofs.RxHistory.{standing-next}
+use Rattle.link_run.proofs.RunFacts.{reports-lanes}
 use Rattle.link_run.proofs.receiver.Receiver.decide.Goals as goal
 
--- the reports of the lanes that were stepped are those of the tick
-reports-stepped : (s : Plan) (t : ℕ)
-    → map (λ l. report_b s.link.params s.link.timing l (lane_stepped s (run lanes_b s t) l).taken)
-    (lanes_of s) ≡ (next s (run lanes_b s t)).reports
-reports-stepped s t =
-    let h = run lanes_b s t in
-    map-numbers (λ l. report_b s.link.params s.link.timing l (lane_stepped s h l).taken)
-    (λ l. report_b s.link.params s.link.timing l (took s h l)) s.link.params.l 0
-    (λ l below. ap (report_b s.link.params s.link.timing l)
-    (sym (took-stepped s h l (has-hunt-run t s))))
-    ∙ sym (reports-next s h)
-
 -- the reports that were written are those of the tick
-written : (s : Plan) (t : ℕ) (lanes : List Pair) (reports new : List LaneReport)
-    → HaveRun lanes s (lane_stepped s (run lanes_b s t))
+written : (s : Plan) (t : ℕ) (lanes : List Pair) (new : List LaneReport)
+    → HaveRun lanes s (lane_stepped (kind_of s.link.params) s (run_of s t))
     → ((q : Plan) (runs : ℕ → LaneRun) → HaveRun lanes q runs
-    → new ≡ map (λ lane. report_b q.link.params q.link.timing lane (runs lane).taken)
-    (numbers_from 0 q.link.params.l))
-    → new ≡ (next s (run lanes_b s t)).reports
-written s t lanes reports new ran wrote = wrote s (lane_stepped s (run lanes_b s t)) ran
-    ∙ reports-stepped s t
+    → new ≡ map (λ lane. (kind_of q.link.params).report q.link.params q.link.timing lane
+    (runs lane).taken) (numbers_from 0 q.link.params.l))
+    → new ≡ (moment_of s (run_of s t)).reports
+written s t lanes new ran wrote =
+    let k : LaneKind = kind_of s.link.params in
+    wrote s (lane_stepped k s (run_of s t)) ran
+    ∙ reports-lanes k s (run_of s t) (has-hunt-run k t s)
 
-named : (s : Plan) (t : ℕ) → All (NamesOctet s.link.params) (next s (run lanes_b s t)).reports
+-- their faults name octets of the configuration
+named : (s : Plan) (t : ℕ) → All (NamesOctet s.link.params) (moment_of s (run_of s t)).reports
 named s t =
-    let h = run lanes_b s t in
-    subst (All (NamesOctet s.link.params)) (sym (reports-next s h))
-    (names-octets s.link.params s.link.timing (took s h) (lanes_of s))
+    let k : LaneKind = kind_of s.link.params in
+    let h : History = run_of s t in
+    subst (All (NamesOctet s.link.params)) (sym (reports-next k s h))
+    (names-octets s.link.params s.link.timing (took k s h) (lanes_of s))
 
 pub report-requires : goal.report-requires
 report-requires c =
     let (s, is) = some_plan c.args.s.now c.requires.link in
-    let told = subst (λ x. HasToldTick x s (run lanes_b s c.args.t)) (sym c.self.view_is)
+    let told = subst (λ x. HasToldTick x s (run_of s c.args.t)) (sym c.self.view_is)
     (c.requires.told s is) in
     let ran = c.requires.lanes s is in
     ap length c.deref_mut.ensures.value ∙ told.lanes ∙ sym ran.0
@@ -59,11 +52,11 @@ report-requires c =
 pub decide-requires-clause-reports : goal.decide-requires-clause-reports
 decide-requires-clause-reports c =
     let (s, is) = some_plan c.args.s.now c.requires.link in
-    let told = subst (λ x. HasToldTick x s (run lanes_b s c.args.t)) (sym c.self.view_is)
+    let told = subst (λ x. HasToldTick x s (run_of s c.args.t)) (sym c.self.view_is)
     (c.requires.told s is) in
-    let wrote = written s c.args.t c.args.lanes.now c.self.inside.reports.items c.report.new.reports
+    let wrote = written s c.args.t c.args.lanes.now c.report.new.reports
     (c.requires.lanes s is) c.report.ensures in
-    let long = ap length wrote ∙ length-reports s (run lanes_b s c.args.t) in
+    let long = ap length wrote ∙ length-reports (kind_of s.link.params) s (run_of s c.args.t) in
     let size = c.self.inside.reports.ok.0 ∙ told.lanes in
     ap length (c.deref.ensures.value ∙ with_items_is c.self.inside.reports c.report.new.reports
     (long ∙ sym size)) ∙ long ∙ ap (λ p. p.l) (sym told.control.params)
@@ -71,11 +64,11 @@ decide-requires-clause-reports c =
 pub decide-requires-clause-octets : goal.decide-requires-clause-octets
 decide-requires-clause-octets c =
     let (s, is) = some_plan c.args.s.now c.requires.link in
-    let told = subst (λ x. HasToldTick x s (run lanes_b s c.args.t)) (sym c.self.view_is)
+    let told = subst (λ x. HasToldTick x s (run_of s c.args.t)) (sym c.self.view_is)
     (c.requires.told s is) in
-    let wrote = written s c.args.t c.args.lanes.now c.self.inside.reports.items c.report.new.reports
+    let wrote = written s c.args.t c.args.lanes.now c.report.new.reports
     (c.requires.lanes s is) c.report.ensures in
-    let long = ap length wrote ∙ length-reports s (run lanes_b s c.args.t) in
+    let long = ap length wrote ∙ length-reports (kind_of s.link.params) s (run_of s c.args.t) in
     let size = c.self.inside.reports.ok.0 ∙ told.lanes in
     let items = c.deref.ensures.value ∙ with_items_is c.self.inside.reports c.report.new.reports
     (long ∙ sym size) ∙ wrote in
@@ -86,11 +79,11 @@ pub returns : goal.returns
 returns c = λ s is.
     let p = s.link.params in
     let t = s.link.timing in
-    let h = run lanes_b s c.args.t in
+    let h = run_of s c.args.t in
     let told = subst (λ x. HasToldTick x s h) (sym c.self.view_is) (c.requires.told s is) in
-    let wrote = written s c.args.t c.args.lanes.now c.self.inside.reports.items c.report.new.reports
+    let wrote = written s c.args.t c.args.lanes.now c.report.new.reports
     (c.requires.lanes s is) c.report.ensures in
-    let long = ap length wrote ∙ length-reports s h in
+    let long = ap length wrote ∙ length-reports (kind_of s.link.params) s h in
     let size = c.self.inside.reports.ok.0 ∙ told.lanes in
     let held = with_items_is c.self.inside.reports c.report.new.reports (long ∙ sym size) in
     let items = c.deref.ensures.value ∙ held ∙ wrote in

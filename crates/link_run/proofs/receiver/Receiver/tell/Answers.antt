@@ -5,6 +5,7 @@ use Rattle.bring_up.specs.Controls.{HasDecided}
 use Rattle.bring_up.specs.Decisions.{is_hunting}
 use Rattle.link_run.specs.Clocked.{HasRunTo}
 use Rattle.link_model.specs.Edges.{is_reset, off, phase}
+use Rattle.link_model.specs.Kinds.{kind_of}
 use Rattle.link_model.specs.Run.{is_at}
 use Rattle.link_model.specs.Receives.{offset_at, told_of}
 use Rattle.link_model.specs.Before.{decisions_before}
@@ -47,7 +48,7 @@ returns c = λ s h is same stands_view at reset.
           (ap not (low ∙ ap (λ x. is_hunting x.stage) (sym (standing-next s h))))
           (c.offset_of.ensures ∙ ap₂ (λ k x. offset_at k.params k.timing x) (sym same) phase_is);
       decides = c.is_at.ensures ∙ ap₂ is_at phase_is (ap (λ t. t.rbd) timing)
-          ∙ sym (decides-next s h);
+          ∙ sym (decides-next (kind_of s.link.params) s h);
       after = record {
         clock =
             subst (λ n. HasRunTo c.tick-clock.new.self s (n + 1)) at (c.tick-clock.ensures.goes_on s

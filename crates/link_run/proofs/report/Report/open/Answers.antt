@@ -6,9 +6,9 @@ pub returns-clause-begins : goal.returns-clause-begins
 unfolding lines
 returns-clause-begins c = λ plan is.
     let same = c.args.s.now.same_shape plan.link (link_of_plan _ _ plan is) in
-    let room = c.in_ok-line.ensures.room in
+    let room = c.in_ok-open.ensures.room in
     record {
       lines_of_rows = c.new.ensures.items;
       room =
-          rw (same, ← c.frame_words.ensures.value) room;
+          rw (same, ← c.frame_words-count.ensures.value) room;
     }

@@ -5,13 +5,14 @@ use Rattle.link_run.specs.Sendings.{HasObserved}
 use Rattle.link_run.specs.Transmitters.{HasSentTick}
 use Rattle.link_model.specs.Before.{levels_after}
 use Rattle.link_model.proofs.NextMoment.{next}
+use Rattle.link_model.specs.Kinds.{kind_of}
 use Rattle.link_model.proofs.TxHistory.{length-more, lows-more, observed-before-more}
 use Rattle.link_run.proofs.transmitter.Transmitter.end.Goals as goal
 
 pub returns-clause-ended : goal.returns-clause-ended
 returns-clause-ended c = λ s h stands_view low.
     let stands = subst (λ x. HasSentTick x s h) (sym c.self.view_is) stands_view in
-    let m = next s h in
+    let m = next (kind_of s.link.params) s h in
     let pushed = c.push.ensures s.link.timing.sync_delay (levels_after h) stands.sync in
     let one : length h + 1 ≡ length (h ++ m ∷ []) = omega (arith, length-more h m) in
     record {

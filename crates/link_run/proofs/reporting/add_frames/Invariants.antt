@@ -1,0 +1,20 @@
+use Rattle.std.proofs.Common.{◌≡◌, ◌≤◌, ◌+◌, ◌*◌, ◌++◌, [], if◌then◌else◌, List, map, take, Some}
+use Rattle.scenario.specs.Plans.{Plan, plan_of}
+use Rattle.link_run.specs.Gathered.{Whole}
+use Rattle.link_run.specs.Printing.{HasPrinted}
+use Rattle.link_run.specs.TickCounts.{with_marks}
+use Rattle.link_model.specs.Report.{Printed, prints_frames}
+use Rattle.link_run.proofs.TickRows.{leaving_rows}
+use Rattle.link_run.proofs.reporting.add_frames.Given as goal
+
+abbrev pub invariant-loop-frame : goal.invariant-loop-frame
+invariant-loop-frame l =
+    (l.next ≡ l.end + l.frame-index * l.size)
+    × (l.report.totals ≡ with_marks l.fn.report.totals
+    (map (λ (f : Whole). f.mark) (take l.frame-index l.frames)))
+    × (l.fn.report.room ≤ l.report.room)
+    × (l.report.size ≡ l.fn.report.size)
+    × ((plan : Plan) → (rows : List Printed) → plan_of l.s ≡ Some plan
+    → HasPrinted l.fn.report plan rows
+    → HasPrinted l.report plan (rows ++ (if prints_frames plan.print then leaving_rows l.s.shape
+    l.end l.frames l.begun l.frame-index else [])))

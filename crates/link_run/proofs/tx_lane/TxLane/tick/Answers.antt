@@ -1,0 +1,17 @@
+use Rattle.std.proofs.Common.{◌≡◌, ℕ, ◌++◌, ◌∷◌, [], List, sym, ap, ◌∙◌, subst}
+use Rattle.link_params.specs.declared.fields.Params.{Params}
+use Rattle.link_params.specs.Lanes.{Handed}
+use Rattle.link_run.specs.LaneEnds.{HasSent}
+use Rattle.link_run.specs.declared.tx_lane.TxLane.{TxLane}
+use Rattle.link_run.proofs.KindEnds.{blocks-more, next-b, next-c, words-more}
+use Rattle.link_run.proofs.tx_lane.TxLane.tick.Goals as goal
+
+pub returns-in-C-clause-bits : goal.returns-in-C-clause-bits
+returns-in-C-clause-bits c = λ p lane handed was.
+    let old = subst (λ (x : TxLane). HasSent x p lane handed) c.in-C.is was in
+    blocks-more p lane _ handed _ old.0 (c.tick-in-C.ensures.bits p lane handed old.1)
+
+pub returns-in-C-clause-sent : goal.returns-in-C-clause-sent
+returns-in-C-clause-sent c = λ p lane handed was.
+    let old = subst (λ (x : TxLane). HasSent x p lane handed) c.in-C.is was in
+    (old.0, c.tick-in-C.ensures.sent p handed old.1)
