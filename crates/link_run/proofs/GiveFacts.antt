@@ -21,7 +21,7 @@ use Rattle.link_model.proofs.KindFacts.{lead}
 use Rattle.link_model.proofs.LaneHistory.{HasHunt, lane-run-next}
 use Rattle.link_model.proofs.NumberLists.{get_or-numbers, length-numbers, map-numbers}
 use Rattle.link_model.proofs.WholeFrames.{delivered-by-place}
-use Rattle.link_model.specs.Before.{Columns, cells_of, delivered_at, mark_of, octet_columns, values_of}
+use Rattle.link_model.specs.Before.{Columns, delivered_at, octet_columns}
 use Rattle.link_model.specs.Gives.{gives_in}
 use Rattle.link_model.specs.Hunts.{session}
 use Rattle.link_model.specs.Kinds.{kind_of, moment_of}

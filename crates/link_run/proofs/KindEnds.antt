@@ -1,15 +1,14 @@
 -- The two ends of a lane of either kind, by the mode of the link.
-use Rattle.std.proofs.Common.{◌≡◌, ℕ, ◌+◌, ◌-◌, ◌%◌, ◌<◌, Bool, true, false, List, [], ◌∷◌, ◌++◌, map, length, get_or, Option, Some, None, refl, sym, ap, ◌∙◌, arith}
+use Rattle.std.proofs.Common.{◌≡◌, ℕ, ◌-◌, Bool, true, false, List, [], ◌∷◌, ◌++◌, map, length, Option, refl, sym, ap, ◌∙◌, arith}
 use Rattle.std.proofs.lemmas.List.{length-drop, length-map, map-append}
 use Rattle.jesd_base.specs.Bits.{bits}
 use Rattle.link_params.specs.declared.fields.Params.{Params}
 use Rattle.link_params.specs.declared.fields.Timing.{Timing}
 use Rattle.link_params.specs.declared.fields.Mode.{Mode}
-use Rattle.link_params.specs.declared.fields.Mode.TheVariants.{B, CCrc, CFec}
-use Rattle.link_params.specs.declared.lane_report.LaneReport.{LaneReport}
+use Rattle.link_params.specs.declared.fields.Mode.TheVariants.{B}
 use Rattle.link_params.specs.declared.orders.TxOrder.{TxOrder}
 use Rattle.link_params.specs.declared.orders.TxOrder.TheVariants.{Comma, Ilas, Data, Silent, Block}
-use Rattle.link_params.specs.Lanes.{Entry, Handed, Held, Taken}
+use Rattle.link_params.specs.Lanes.{Handed, Held, Taken}
 use Rattle.link_params.specs.Laws.{is_b}
 use Rattle.link_params.specs.Numbers.{width}
 use Rattle.lane_b.specs.Received.{entries_b, report_b}

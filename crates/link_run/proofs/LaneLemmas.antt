@@ -19,7 +19,7 @@ use Rattle.scenario.specs.Limits.{flip_fits}
 use Rattle.scenario.specs.Plans.{Plan, numbers_from}
 use Rattle.link_model.specs.Kinds.{kind_of}
 use Rattle.link_model.specs.LaneRuns.{LaneRun, held_by, no_run, stepped}
-use Rattle.link_run.specs.LaneEnds.{buffer_in, next_in, params_in, tx_width}
+use Rattle.link_run.specs.LaneEnds.{buffer_in, next_in, params_in}
 use Rattle.link_run.specs.LaneRuns.{AreAt, HasRunLane, HaveRun, Pair}
 use Rattle.link_run.specs.Sendings.{next_after}
 use Rattle.link_run.proofs.KindEnds.{buffer-count}

@@ -1,5 +1,5 @@
 -- Lanes that went through the same.
-use Rattle.std.proofs.Common.{◌≡◌, ◌∙◌, ◌<◌, Bool, get_or, ℕ, List, [], length, Some, None, false, unwrap_or, arith, is_some, if◌then◌else◌, sym, ap, subst, refl}
+use Rattle.std.proofs.Common.{◌≡◌, ◌∙◌, ◌<◌, Bool, get_or, ℕ, List, [], length, Some, unwrap_or, is_some, if◌then◌else◌, sym, ap, subst, refl}
 use Rattle.link_params.specs.declared.alarms.Device.TheVariants.{Tx}
 use Rattle.link_params.specs.Links.{Link}
 use Rattle.scenario.specs.declared.scenario_type.Scenario.{Scenario}

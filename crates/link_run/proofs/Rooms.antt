@@ -1,17 +1,11 @@
 -- Room and entries in the elastic buffers of a run.
-use Rattle.std.proofs.Common.{◌≡◌, ◌∙◌, ◌-◌, ◌<◌, ℕ, false, List, length, get_or, None, sym, ap, arith}
-use Rattle.std.proofs.lemmas.List.{length-drop, length-map}
-use Rattle.link_params.specs.declared.fields.Params.{Params}
-use Rattle.link_params.specs.declared.fields.Timing.{Timing}
-use Rattle.link_params.specs.Lanes.{Held, LaneKind, Taken}
+use Rattle.std.proofs.Common.{◌≡◌, ◌<◌, ℕ, false, List, length, get_or, None, ap, arith}
+use Rattle.link_params.specs.Lanes.{LaneKind, Taken}
 use Rattle.link_params.specs.Laws.{broken_law}
 use Rattle.link_params.specs.Links.{Link}
 use Rattle.link_params.specs.TimingLaws.{broken_timing}
 use Rattle.bring_up.specs.declared.stage.Stage.TheVariants as stage
-use Rattle.lane_c.specs.Received.{entries_c}
 use Rattle.scenario.specs.Plans.{Plan}
-use Rattle.link_run.specs.declared.rx_lane.RxLane.{RxLane}
-use Rattle.link_run.specs.declared.rx_lane.RxLane.TheVariants as rx
 use Rattle.link_model.proofs.Depth.{has-entry, has-room}
 use Rattle.link_model.proofs.FactsOf.{facts-of}
 use Rattle.link_model.proofs.LaneHistory.{has-hunt-run, took-stepped}

@@ -1,5 +1,5 @@
 -- What holds in each tick of a run of a legal link.
-use Rattle.std.proofs.Common.{◌≡◌, ℕ, ◌-◌, ◌<◌, ◌≤◌, List, [], length, map, None, ap, sym, ◌∙◌}
+use Rattle.std.proofs.Common.{◌≡◌, ℕ, ◌-◌, ◌<◌, ◌≤◌, List, length, map, None, ap, sym, ◌∙◌}
 use Rattle.std.proofs.lemmas.Simd.{map-map}
 use Rattle.link_params.specs.Lanes.{Entry, LaneKind, Taken}
 use Rattle.link_params.specs.Laws.{broken_law}

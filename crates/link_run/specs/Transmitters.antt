@@ -1,6 +1,6 @@
 -- What the transmitter of a run keeps of its history.
 -- Code: a clock, a row of levels, a place, one frame, and a number a lane.
-use Rattle.std.specs.Prelude.{◌≡◌, ℕ, ◌+◌, Bool, false, if◌then◌else◌, List, [], ◌∷◌, ◌++◌, length, Option, None}
+use Rattle.std.specs.Prelude.{◌≡◌, ℕ, ◌+◌, Bool, if◌then◌else◌, List, [], ◌∷◌, ◌++◌, length, None}
 use Rattle.link_params.specs.declared.alarms.Device.TheVariants.{Tx}
 use Rattle.link_params.specs.declared.orders.TxOrder.{TxOrder}
 use Rattle.scenario.specs.Plans.{Plan}

@@ -1,4 +1,4 @@
-use Rattle.std.proofs.Common.{◌≡◌, ◌∙◌, ◌+◌, ◌*◌, ◌≤◌, length, ap, arith, sym, subst}
+use Rattle.std.proofs.Common.{◌≡◌, ◌∙◌, ◌+◌, ◌*◌, ◌≤◌, length, ap, sym, subst}
 use Rattle.std.specs.Prelude.{All}
 use Rattle.link_model.proofs.RunTicks.{length-run}
 use Rattle.link_model.specs.Kinds.{kind_of, run_of}

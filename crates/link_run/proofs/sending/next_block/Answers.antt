@@ -1,4 +1,4 @@
-use Rattle.std.proofs.Common.{◌≡◌, ◌≤◌, sym, ◌∙◌}
+use Rattle.std.proofs.Common.{sym, ◌∙◌}
 use Rattle.link_run.proofs.BlockOrders.{first_block, next_block, silent}
 use Rattle.link_run.proofs.sending.next_block.Goals as goal
 

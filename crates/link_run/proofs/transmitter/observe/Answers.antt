@@ -7,7 +7,7 @@ use Rattle.link_model.specs.Before.{levels_after, observed_before}
 use Rattle.link_model.specs.Edges.{is_reset}
 use Rattle.link_model.specs.Orders.{Observed, tx_order}
 use Rattle.link_model.specs.Sends.{observed, order_of}
-use Rattle.link_run.specs.Sendings.{Follows, HasObserved}
+use Rattle.link_run.specs.Sendings.{HasObserved}
 use Rattle.link_run.proofs.transmitter.observe.Goals as goal
 
 pub returns-clause-observes : goal.returns-clause-observes

@@ -1,10 +1,9 @@
-use Rattle.std.proofs.Common.{◌≡◌, ◌<◌, ◌≤◌, ◌+◌, ◌*◌, ◌%◌, ◌^◌, ℕ, All, Option, Some, None, IfSome, unwrap_or, length, refl, sym, ap, ◌∙◌, arith}
+use Rattle.std.proofs.Common.{◌≡◌, ◌<◌, ◌+◌, ◌*◌, ◌%◌, ◌^◌, ℕ, Option, Some, None, IfSome, unwrap_or, length, refl, sym, ap, ◌∙◌, arith}
 use Rattle.std.proofs.Math.Nat.{mul-le-mul_right}
 use Rattle.link_params.specs.Numbers.{octets_per_tick}
 use Rattle.link_params.specs.declared.fields.Params.{Params}
-use Rattle.scenario.specs.Plans.{Plan, plan_of}
 use Rattle.link_run.proofs.FeedLemmas.{same_params}
-use Rattle.link_run.proofs.Handing.{Hands, fed-all, handed-all, handed-none, hands-more, hands-none, small-octets}
+use Rattle.link_run.proofs.Handing.{fed-all, handed-all, handed-none, hands-more, hands-none, small-octets}
 use Rattle.link_run.specs.Seen.{Fed}
 use Rattle.link_run.proofs.feed.Feed.hand.Goals as goal
 

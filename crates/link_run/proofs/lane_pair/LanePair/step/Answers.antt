@@ -1,4 +1,4 @@
-use Rattle.std.proofs.Common.{sym, ap, ◌∙◌, subst}
+use Rattle.std.proofs.Common.{sym, ◌∙◌, subst}
 use Rattle.link_run.specs.LaneRuns.{HasRunLane, Pair, settings}
 use Rattle.link_run.proofs.PairLemmas.{lane-ticks}
 use Rattle.link_run.proofs.lane_pair.LanePair.step.Goals as goal

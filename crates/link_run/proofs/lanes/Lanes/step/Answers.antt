@@ -1,9 +1,9 @@
-use Rattle.std.proofs.Common.{◌≡◌, ◌<◌, ◌+◌, List, ◌∙◌, ap, arith, get_or, length, refl, subst, sym}
+use Rattle.std.proofs.Common.{◌≡◌, ◌<◌, List, ◌∙◌, ap, arith, get_or, length, refl, subst, sym}
 use Rattle.std.specs.Prelude.{slice_index}
 use Rattle.link_model.specs.Kinds.{kind_of}
 use Rattle.link_model.specs.LaneRuns.{stepped}
 use Rattle.link_run.specs.LaneEnds.{IsSmall, MayFollow, buffer_in}
-use Rattle.link_run.specs.LaneRuns.{AreAt, HasRunLane, HaveRun, Pair}
+use Rattle.link_run.specs.LaneRuns.{AreAt, HaveRun, Pair}
 use Rattle.link_run.specs.Sendings.{next_after}
 use Rattle.link_run.proofs.LaneLemmas.{HasStepped, are-at, changed-more, changed-none, have-run-below, written-back}
 use Rattle.link_run.proofs.lanes.Lanes.step.Goals as goal

@@ -1,4 +1,4 @@
-use Rattle.std.proofs.Common.{◌≡◌, ◌∙◌, ◌+◌, ◌*◌, ◌++◌, ℕ, false, List, [], length, map, Option, inl, inr, sym, ap, subst, refl, append-nil}
+use Rattle.std.proofs.Common.{◌≡◌, ◌∙◌, ◌++◌, ℕ, false, List, [], length, map, Option, inl, inr, sym, ap, subst}
 use Rattle.std.proofs.lemmas.Bool.{cases_lt}
 use Rattle.std.proofs.lemmas.List.{length-map, with_items_is}
 use Rattle.link_params.specs.declared.cells.LaneCell.{LaneCell}
@@ -11,7 +11,6 @@ use Rattle.link_model.specs.Gives.{gives_in}
 use Rattle.link_model.specs.Hunts.{session}
 use Rattle.link_model.specs.Kinds.{kind_of, moment_of, run_of}
 use Rattle.link_model.specs.LaneRuns.{LaneRun, given_by, lane_run, lane_stepped}
-use Rattle.link_model.specs.Moments.{History}
 use Rattle.link_model.proofs.ColumnHistory.{all-give-none, all-give-some, column}
 use Rattle.link_model.proofs.DeliveryHistory.{delivered-early, delivered-still}
 use Rattle.link_model.proofs.KindFacts.{lead}
@@ -20,7 +19,7 @@ use Rattle.link_model.proofs.NumberLists.{length-numbers}
 use Rattle.link_run.specs.Gathered.{Gathering, HasGathered}
 use Rattle.link_run.specs.LaneRuns.{AreAt, Pair}
 use Rattle.link_run.specs.LinkStates.{CanGive, LinkView, columns_left}
-use Rattle.link_run.proofs.GiveFacts.{begun-few, columns-early, columns-late, columns-still, delivered-frames, delivered-nothing, have-words, lane-gave, lane-still, no-words, not-running, still-gathered, with_tick}
+use Rattle.link_run.proofs.GiveFacts.{begun-few, columns-early, columns-late, columns-still, delivered-frames, delivered-nothing, have-words, lane-gave, lane-still, no-words, still-gathered, with_tick}
 use Rattle.link_run.proofs.LaneStates.{have-same, link-of, plan-there}
 use Rattle.link_run.proofs.Rooms.{IsGood, stepped-entry}
 use Rattle.link_run.proofs.RunFacts.{is-run}

@@ -1,5 +1,4 @@
-use Rattle.std.proofs.Common.{◌≡◌, ◌∙◌, ◌<◌, Bool, ℕ, true, false, length, List, [], get_or, slice_index, if◌then◌else◌, Option, None, arith, sym, ap, subst}
-use Rattle.std.specs.Prelude.{All}
+use Rattle.std.proofs.Common.{◌≡◌, ◌∙◌, ◌<◌, Bool, ℕ, true, false, length, List, [], get_or, slice_index, if◌then◌else◌, Option, arith, sym, ap, subst}
 use Rattle.std.proofs.lemmas.List.{length-map}
 use Rattle.link_params.specs.declared.fields.Params.{Params}
 use Rattle.link_params.specs.declared.orders.TxOrder.{TxOrder}

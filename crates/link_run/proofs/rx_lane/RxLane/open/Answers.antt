@@ -1,8 +1,6 @@
-use Rattle.std.proofs.Common.{◌≡◌, ℕ, false, refl, sym, ap, ◌∙◌, inl, inr}
-use Rattle.link_params.specs.declared.fields.Mode.{Mode}
+use Rattle.std.proofs.Common.{◌≡◌, false, sym, ap, ◌∙◌, inl, inr}
 use Rattle.link_params.specs.declared.fields.Params.{Params}
 use Rattle.link_params.specs.Laws.{is_b}
-use Rattle.link_params.specs.Numbers.{width}
 use Rattle.link_run.proofs.KindEnds.{width-c}
 use Rattle.link_run.proofs.rx_lane.RxLane.open.Goals as goal
 

@@ -1,4 +1,4 @@
-use Rattle.std.proofs.Common.{◌≡◌, false, refl, ap, ◌∙◌, inl, inr}
+use Rattle.std.proofs.Common.{refl, ap, ◌∙◌, inl, inr}
 use Rattle.link_params.specs.Laws.{is_b}
 use Rattle.link_model.specs.Orders.{from_edge}
 use Rattle.link_run.proofs.sending.Sending.new.Goals as goal

@@ -1,4 +1,3 @@
-use Rattle.std.proofs.Common.{◌≡◌, sym}
 use Rattle.link_run.proofs.BlockOrders.{blocks-go-on}
 use Rattle.link_run.proofs.sending.Sending.tick.Goals as goal
 

@@ -1,4 +1,4 @@
-use Rattle.std.proofs.Common.{◌≡◌, ◌∙◌, length, None, arith, [], sym, ap, subst}
+use Rattle.std.proofs.Common.{◌≡◌, ◌∙◌, None, arith, [], sym, ap, subst}
 use Rattle.link_params.specs.declared.fields.Params.{Params}
 use Rattle.link_params.proofs.LawFacts.{legal_sizes, timely}
 use Rattle.link_params.specs.Laws.{broken_law}

@@ -1,7 +1,6 @@
-use Rattle.std.proofs.Common.{◌≡◌, ◌∙◌, ℕ, ◌+◌, ◌*◌, ◌++◌, [], ◌∷◌, length, map, Some, None, sym, ap, ap₂, subst, refl}
+use Rattle.std.proofs.Common.{◌≡◌, ◌∙◌, ℕ, ◌+◌, ◌*◌, ◌++◌, [], ◌∷◌, length, map, sym, ap, ap₂, subst}
 use Rattle.std.proofs.lemmas.List.{length-map}
 use Rattle.link_params.specs.declared.alarms.Device.TheVariants.{Tx}
-use Rattle.link_model.specs.Before.{levels_after}
 use Rattle.link_model.specs.Edges.{is_reset, off, phase}
 use Rattle.link_model.specs.Kinds.{kind_of, moment_of}
 use Rattle.link_model.specs.Sends.{beginnings, data_place, frames_before, handed_to}
@@ -9,7 +8,7 @@ use Rattle.link_params.specs.Numbers.{octets_per_tick}
 use Rattle.link_model.proofs.NextMoment.{entered-next, handed-next, next, order-next}
 use Rattle.link_model.proofs.TxHistory.{frames-before-more}
 use Rattle.link_run.specs.Clocked.{HasRunTo}
-use Rattle.link_run.specs.Seen.{HasFed, HasSynced}
+use Rattle.link_run.specs.Seen.{HasFed}
 use Rattle.link_run.specs.Transmitters.{HasSentRun, Observes}
 use Rattle.scenario.specs.Plans.{numbers_from}
 use Rattle.link_run.proofs.FeedLemmas.{left_in}

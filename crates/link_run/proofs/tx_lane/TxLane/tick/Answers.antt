@@ -1,9 +1,7 @@
-use Rattle.std.proofs.Common.{◌≡◌, ℕ, ◌++◌, ◌∷◌, [], List, sym, ap, ◌∙◌, subst}
-use Rattle.link_params.specs.declared.fields.Params.{Params}
-use Rattle.link_params.specs.Lanes.{Handed}
+use Rattle.std.proofs.Common.{subst}
 use Rattle.link_run.specs.LaneEnds.{HasSent}
 use Rattle.link_run.specs.declared.tx_lane.TxLane.{TxLane}
-use Rattle.link_run.proofs.KindEnds.{blocks-more, next-b, next-c, words-more}
+use Rattle.link_run.proofs.KindEnds.{blocks-more}
 use Rattle.link_run.proofs.tx_lane.TxLane.tick.Goals as goal
 
 pub returns-in-C-clause-bits : goal.returns-in-C-clause-bits
