@@ -14,8 +14,8 @@ use Rattle.clap.specs.Lexer.{long_of, short_of}
 use Rattle.std.specs.Option.{option_map_or}
 use Rattle.bench_words.specs.declared.asked.Task.{Task}
 use Rattle.bench_words.specs.declared.asked.Words.{Words}
-use Rattle.bench_words.specs.Reading.{Slot, the_job, the_workers, the_number, Item, item, items, before, plain_items, texts, asked, task_of, setting, joined, is_dashed, words_of}
-use Rattle.bench_words.specs.Clap.{Given, listed, read_by_clap, asked_of, given_of, clap_reading}
+use Rattle.bench_words.specs.Reading.{Slot, the_job, the_workers, the_number, Item, item, items, before, plain_items, texts, asked, task_of, setting, joined, is_dashed, asked_by_words}
+use Rattle.bench_words.specs.kept.Clap.{Given, listed, read_by_clap, asked_of, given_of, clap_reading}
 use Rattle.bench_words.proofs.Outcome.{shape, ending, result, from_start, at_end, goes_on, refuses}
 use Rattle.bench_words.proofs.Rows.{id_of, row_at, at, put, row, Holds, has, holds_more, with_row}
 use Rattle.bench_words.proofs.Look.{Look, ends, asks, gives, unknown, letters, dash, plain, look, option_slot, option_word, option_front, items_ends, items_asks, items_gives, items_dash, items_value, items_no_value}
@@ -510,7 +510,7 @@ no_rows = record { found = λ slot. none slot }
     none the_number = refl
 
 -- what clap gives is what the words ask for
-pub clap_agrees : (words : List Text) → AreTexts words → option_and_then asked_of (clap_reading words) ≡ words_of words
+pub clap_agrees : (words : List Text) → AreTexts words → option_and_then asked_of (clap_reading words) ≡ asked_by_words words
 clap_agrees words t =
     let nothing : Given = record { job = None; workers = None; number = None } in
     ap (option_and_then asked_of) (from_start words)

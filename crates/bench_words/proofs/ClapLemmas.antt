@@ -6,7 +6,7 @@ use Rattle.clap.specs.Faults.{fault_of, is_simple_and_free}
 use Rattle.clap.specs.Simple.{App, is_simple, matches_of}
 use Rattle.clap.specs.Walk.{Text, Row}
 use Rattle.clap.proofs.OnLiterals.{clap_on_literals}
-use Rattle.bench_words.specs.Clap.{read_by_clap, clap_reading, given_of, bench_app}
+use Rattle.bench_words.specs.kept.Clap.{read_by_clap, clap_reading, given_of, bench_app}
 
 refused : (k : ErrorKind) (kinds : Kinds) (rows : List Row) → IsAmong k kinds → read_by_clap kinds rows ≡ None
 refused k [] rows h = absurd h

@@ -7,7 +7,7 @@ use Rattle.clap.specs.Walk.{Text, Walk, Held, walked, walk_from, nothing_held, s
 use Rattle.clap.specs.Simple.{Shape, built}
 use Rattle.clap.specs.Faults.{turn_fault, walk_fault, settle_fault, defaults_fault, check_fault}
 use Rattle.clap.proofs.FaultLemmas.{leaf_fault}
-use Rattle.bench_words.specs.Clap.{bench_app, Given, read_by_clap, clap_reading, asked_of}
+use Rattle.bench_words.specs.kept.Clap.{bench_app, Given, read_by_clap, clap_reading, asked_of}
 use Rattle.bench_words.specs.declared.asked.Words.{Words}
 
 abbrev pub shape : Shape

@@ -8,7 +8,7 @@ use Rattle.clap.specs.Walk.{Text, Row, at_row, has_row, with_values, without, mo
 use Rattle.clap.specs.declared.builder.value_parser.Reading.TheVariants.{AsWritten}
 use Rattle.clap.specs.declared.parser.matches.ValueSource.TheVariants.{CommandLine}
 use Rattle.bench_words.specs.Reading.{Slot, the_job, the_workers, the_number}
-use Rattle.bench_words.specs.Clap.{Given}
+use Rattle.bench_words.specs.kept.Clap.{Given}
 
 abbrev pub id_of : Slot → Text
 id_of the_job = codes "job"

@@ -118,5 +118,5 @@ abbrev pub asked_by : List Item → Option Words
 asked_by all = asked (texts the_job all) (texts the_workers all) (texts the_number all)
 
 -- what the words ask for, None where they are refused
-abbrev pub words_of : List Text → Option Words
-words_of words = option_and_then asked_by (items None words)
+abbrev pub asked_by_words : List Text → Option Words
+asked_by_words words = option_and_then asked_by (items None words)

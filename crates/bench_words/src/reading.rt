@@ -5,9 +5,9 @@ ghost use Rattle.std.specs.List.{All, list_all};
 ghost use Rattle.std.specs.Str.{IsUtf8};
 ghost use Rattle.std.specs.Char.{is_ascii_digit};
 ghost use Rattle.clap.specs.Simple.{app_of};
-ghost use Rattle.bench_words.specs.Reading.{words_of, number_of, setting, task_named};
-ghost use Rattle.bench_words.specs.Clap.{clap_reading, bench_app, asked_of, listed};
-ghost use Rattle.bench_words.specs.Found.{given, text_of};
+ghost use Rattle.bench_words.specs.Reading.{asked_by_words, number_of, setting, task_named};
+ghost use Rattle.bench_words.specs.kept.Clap.{clap_reading, bench_app, asked_of, listed};
+ghost use Rattle.bench_words.specs.kept.Found.{given, text_of};
 
 use crate::asked::{Task, Words, WordsFault};
 use clap::error::ErrorKind;
@@ -146,8 +146,8 @@ fn ask(found: &Found<'_>) -> Option<Words>
 /// `unmap`, `run` or `gen`. Another word that begins with `-` and is longer than one byte is refused, and so is an
 /// option that is given twice. Workers are 1 to 32, the number is 0 to 4294967295, each in 1 to 10 decimal digits.
 pub fn read_words(alloc: Global, words: &[&str]) -> Result<Words, WordsFault>
-    ensures read { IfOk result (λ w. words_of (map (λ s. s.now) words.now) ≡ Some w) }
-    ensures refused { result ≡ Err WordsFault.Bad → words_of (map (λ s. s.now) words.now) ≡ None }
+    ensures read { IfOk result (λ w. asked_by_words (map (λ s. s.now) words.now) ≡ Some w) }
+    ensures refused { result ≡ Err WordsFault.Bad → asked_by_words (map (λ s. s.now) words.now) ≡ None }
 {
     are_texts(words);
     match read_with_clap(alloc, words) {

@@ -8,7 +8,7 @@ use Rattle.std.proofs.lemmas.Bool.{cases_lt}
 use Rattle.std.proofs.lemmas.List.{drop-append-le, drop-drop, drop_at, take_at}
 use Rattle.std.proofs.lemmas.Nat.{and_mask, mod-pow-add, or_shifted, pow-add, pow_pos, shl-shr, shr-shr, shr_below}
 use Rattle.jesd_base.specs.Bits.{bits, value, zeros}
-use Rattle.jesd_base.specs.BitLaws.{BitsLength, ValueOfBits, ValueOfAppend}
+use Rattle.jesd_base.specs.laws.BitLaws.{BitsLength, ValueOfBits, ValueOfAppend}
 use Rattle.block_66b.specs.Blocks.{header, window}
 use Rattle.block_66b.specs.declared.sync_bit.SyncBit.TheVariants.{Zero, One, Bad}
 

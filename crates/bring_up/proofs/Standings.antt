@@ -11,7 +11,7 @@ use Rattle.bring_up.specs.declared.stage.Stage.TheVariants as stage
 use Rattle.bring_up.specs.declared.stage.Decision.{Decision}
 use Rattle.bring_up.specs.declared.stage.Decision.TheVariants.{Stay, Arm, Release, Hunt}
 use Rattle.bring_up.specs.Decisions.{Decided, Standing, after_decision, after_reports, alarms_from, all_started, begin, decide, decide_at, first_class, hunt_on, in_hunt, lane_missing, lane_window, lost_or_faulty, missing, outside_or_missing, some_started, standing_from}
-use Rattle.bring_up.specs.Controls.{Controller, HasDecided, calm_by, controller_after, count_after, counted, decided_by, hunt_count}
+use Rattle.bring_up.specs.kept.Controls.{Controller, HasDecided, calm_by, controller_after, count_after, counted, decided_by, hunt_count}
 
 pub standing-snoc : (p : Params) (t : Timing) (before : List (List LaneReport)) (s : Standing) (reports : List LaneReport)
     → standing_from p t s (before ++ reports ∷ []) ≡ after_reports p t (standing_from p t s before) reports

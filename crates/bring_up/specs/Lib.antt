@@ -1,4 +1,3 @@
-pub mod Classes
-pub mod Controls
 pub mod Decisions
-pub mod DecisionLaws
+pub mod kept
+pub mod laws

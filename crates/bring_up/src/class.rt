@@ -3,8 +3,8 @@ ghost use Rattle.std.specs.Prelude.{◌≡◌, ◌≤◌, ◌+◌, ◌++◌, ℕ
 ghost use Rattle.std.specs.List.{All};
 ghost use Rattle.link_params.specs.declared.ilas_state.IlasCause.TheVariants.{Config};
 ghost use Rattle.link_params.specs.declared.ilas_state.IlasState.TheVariants.{Fault};
-ghost use Rattle.bring_up.specs.Classes.{class_alarm, listed};
-ghost use Rattle.bring_up.specs.Controls.{NamesOctet};
+ghost use Rattle.bring_up.specs.kept.Classes.{class_alarm, listed};
+ghost use Rattle.bring_up.specs.kept.Controls.{NamesOctet};
 ghost use Rattle.bring_up.specs.Decisions.{alarms_from, if_so, state_alarm, window_alarm};
 
 use crate::alarm_row::AlarmRow;

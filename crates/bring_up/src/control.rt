@@ -4,7 +4,7 @@ ghost use Rattle.std.specs.List.{All};
 ghost use Rattle.link_params.specs.declared.fields.Params.{Params};
 ghost use Rattle.link_params.specs.declared.fields.Timing.{Timing};
 ghost use Rattle.link_params.specs.declared.lane_report.LaneReport.{LaneReport as Report};
-ghost use Rattle.bring_up.specs.Controls.{HasDecided, NamesOctet, controller_after, count_after, limit};
+ghost use Rattle.bring_up.specs.kept.Controls.{HasDecided, NamesOctet, controller_after, count_after, limit};
 ghost use Rattle.bring_up.specs.Decisions.{begin, decide_at, is_hunting, standing_from};
 ghost use Rattle.bring_up.specs.declared.stage.Decision.TheVariants.{Stay};
 
@@ -25,7 +25,7 @@ pub struct Control {
 
 impl Model for Control {
     ghost use Rattle.std.specs.Prelude.{◌<◌};
-    ghost use Rattle.bring_up.specs.Controls.{Controller, limit};
+    ghost use Rattle.bring_up.specs.kept.Controls.{Controller, limit};
 
     ghost Value = { Controller };
 

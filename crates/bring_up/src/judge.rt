@@ -3,7 +3,7 @@ ghost use Rattle.std.specs.Prelude.{◌≡◌, ◌≤◌, ◌<◌, ◌+◌, [], 
 ghost use Rattle.std.specs.List.{All, list_all};
 ghost use Rattle.bring_up.specs.declared.stage.Decision.TheVariants.{Stay};
 ghost use Rattle.bring_up.specs.declared.stage.Stage.TheVariants.{Wait};
-ghost use Rattle.bring_up.specs.Controls.{NamesOctet, count_after, decided_by, limit};
+ghost use Rattle.bring_up.specs.kept.Controls.{NamesOctet, count_after, decided_by, limit};
 ghost use Rattle.bring_up.specs.Decisions.{all_started, decided, hunt_on, in_hunt, lost_or_faulty, outside_or_missing, some_started};
 
 use crate::alarm_row::AlarmRow;

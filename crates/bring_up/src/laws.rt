@@ -1,5 +1,5 @@
 //! Laws of the decisions.
-ghost use Rattle.bring_up.specs.DecisionLaws.{HuntsWhereLow, StandsByLast};
+ghost use Rattle.bring_up.specs.laws.DecisionLaws.{HuntsWhereLow, StandsByLast};
 
 /// Where a receiver stands after its decisions: it hunts exactly while SYNC~ is low (JESD204B.01
 /// clause 5.3.3.1, code group synchronization), and each decision goes on from where the one

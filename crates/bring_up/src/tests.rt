@@ -1,7 +1,7 @@
 //! Decisions on a link of two lanes.
 ghost use Rattle.std.specs.Prelude.{◌≡◌, ◌++◌, ◌∷◌, [], List, true};
 ghost use Rattle.link_params.specs.declared.lane_report.LaneReport.{LaneReport as Report};
-ghost use Rattle.bring_up.specs.Controls.{HasDecided, NamesOctet};
+ghost use Rattle.bring_up.specs.kept.Controls.{HasDecided, NamesOctet};
 
 use crate::{AlarmRow, Control, Decision, Stage};
 use link_params::{Alarm, IlasCause, IlasState, LaneReport, Link, Mode, Params, Timing};

@@ -7,7 +7,7 @@ use Rattle.link_params.specs.declared.fields.Mode.TheVariants.{B}
 use Rattle.link_params.specs.Numbers.{period}
 use Rattle.char_replace.specs.Replacement.{ends_multiframe}
 use Rattle.link_params.proofs.LawFacts.{legal_sizes}
-use Rattle.char_replace.specs.Kept.{frame_end, IsSerial}
+use Rattle.char_replace.specs.kept.Ends.{frame_end, IsSerial}
 
 pub period-b : (p : Params) → p.mode ≡ B → period p ≡ p.f * p.k
 period-b p b = rw b refl

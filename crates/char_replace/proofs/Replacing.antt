@@ -10,7 +10,7 @@ use Rattle.link_params.specs.Numbers.{period}
 use Rattle.code_8b10b.specs.declared.character.Char.{Char}
 use Rattle.code_8b10b.specs.declared.character.Char.TheVariants.{Data}
 use Rattle.char_replace.specs.Replacement.{IsReplaced, char_due, ends_multiframe, is_data}
-use Rattle.char_replace.specs.Kept.{Sender, HasReplaced, char_by_kept, frame_end, IsSerial}
+use Rattle.char_replace.specs.kept.Ends.{Sender, HasReplaced, char_by_kept, frame_end, IsSerial}
 use Rattle.char_replace.proofs.FramePlaces.{has_period, ends-none, begun-inside, frame_end-here, frame_end-before, frame_end-inside}
 
 abbrev get_or_at : {A : Type 0} → List A → A → ℕ → A

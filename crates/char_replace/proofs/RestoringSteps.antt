@@ -13,7 +13,7 @@ use Rattle.code_8b10b.specs.declared.character.Reading.TheVariants.{Char as Read
 use Rattle.char_replace.specs.declared.restored.Restored.{Restored}
 use Rattle.char_replace.specs.Replacement.{ends_multiframe}
 use Rattle.char_replace.specs.Restoring.{IsRestored, given_at, nothing, is_accepted}
-use Rattle.char_replace.specs.Kept.{Receiver, HasRestored, given_by_kept, frame_end, IsSerial}
+use Rattle.char_replace.specs.kept.Ends.{Receiver, HasRestored, given_by_kept, frame_end, IsSerial}
 use Rattle.char_replace.proofs.FramePlaces.{begun-inside, frame_end-here, frame_end-before, frame_end-inside, ends-multiple, period-b, has_period}
 
 abbrev get_or_at : {A : Type 0} → List A → A → ℕ → A

@@ -9,9 +9,9 @@ use Rattle.code_8b10b.specs.declared.character.Char.{Char}
 use Rattle.code_8b10b.specs.declared.character.Char.TheVariants.{Data}
 use Rattle.code_8b10b.specs.declared.character.Reading.TheVariants.{Char as Read, Invalid}
 use Rattle.char_replace.specs.declared.restored.Restored.{Restored}
-use Rattle.char_replace.specs.Replacement.{IsReplaced, char_due, scrambled_char, plain_char, alignment_a, alignment_f, ends_multiframe, ends_frame, is_alike, is_after_data}
+use Rattle.char_replace.specs.Replacement.{IsReplaced, char_due, scrambled_char, plain_char, alignment_a, alignment_f, ends_multiframe, ends_frame_only, is_alike, is_after_data}
 use Rattle.char_replace.specs.Restoring.{IsRestored, given_at, nothing}
-use Rattle.char_replace.specs.ReplaceLaws.{RestoresOctets}
+use Rattle.char_replace.specs.laws.ReplaceLaws.{RestoresOctets}
 
 abbrev clean : ℕ → Restored
 clean o = record { octet = o; bad = false; fault = false }
@@ -28,7 +28,7 @@ scrambled : (p : Params) (octets : List ℕ) (given : List Restored) (x : ℕ) �
 scrambled p octets given x scr =
     let o : ℕ = get_or octets x 0 in
     let whole : Bool = ends_multiframe p x in
-    let part : Bool = ends_frame p x in
+    let part : Bool = ends_frame_only p x in
     let P : Char → Type 0 = λ c. given_at p given x (Read c) ≡ clean o in
     one_of_three (whole && (o == 0x7C)) (part && (o == 0xFC)) alignment_a alignment_f (Data o) P
     (λ h.
@@ -56,7 +56,7 @@ plain : (p : Params) (octets : List ℕ) (chars : List Char) (given : List Resto
 plain p octets chars given x off before =
     let o : ℕ = get_or octets x 0 in
     let whole : Bool = ends_multiframe p x in
-    let part : Bool = ends_frame p x in
+    let part : Bool = ends_frame_only p x in
     let like : Bool = is_alike p octets x in
     let after : Bool = is_after_data p chars x in
     let P : Char → Type 0 = λ c. given_at p given x (Read c) ≡ clean o in

@@ -1,4 +1,4 @@
 pub mod Replacement
 pub mod Restoring
-pub mod ReplaceLaws
-pub mod Kept
+pub mod kept
+pub mod laws

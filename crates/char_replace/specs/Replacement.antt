@@ -25,8 +25,8 @@ abbrev pub ends_multiframe : Params → ℕ → Bool
 ends_multiframe p x = x % period p + 1 == period p
 
 -- place x ends a frame that ends no multiframe
-abbrev pub ends_frame : Params → ℕ → Bool
-ends_frame p x = (x % p.f + 1 == p.f) && not (ends_multiframe p x)
+abbrev pub ends_frame_only : Params → ℕ → Bool
+ends_frame_only p x = (x % p.f + 1 == p.f) && not (ends_multiframe p x)
 
 -- the octet at place x equals the one a frame before; in the first frame none does
 abbrev pub is_alike : Params → List ℕ → ℕ → Bool
@@ -41,13 +41,13 @@ is_after_data p chars x = is_data (slice_index_or chars (x - p.f) (Data 0))
 abbrev pub plain_char : Params → List ℕ → List Char → ℕ → Char
 plain_char p octets chars x =
     if ends_multiframe p x && is_alike p octets x then alignment_a
-    else (if ends_frame p x && is_alike p octets x && is_after_data p chars x then alignment_f else Data (slice_index octets x))
+    else (if ends_frame_only p x && is_alike p octets x && is_after_data p chars x then alignment_f else Data (slice_index octets x))
 
 -- with scrambling: a multiframe's last octet 7C is sent as /A/, another frame's last octet FC as /F/
 abbrev pub scrambled_char : Params → List ℕ → ℕ → Char
 scrambled_char p octets x =
     if ends_multiframe p x && (slice_index octets x == 0x7C) then alignment_a
-    else (if ends_frame p x && (slice_index octets x == 0xFC) then alignment_f else Data (slice_index octets x))
+    else (if ends_frame_only p x && (slice_index octets x == 0xFC) then alignment_f else Data (slice_index octets x))
 
 abbrev pub char_due : Params → List ℕ → List Char → ℕ → Char
 char_due p octets chars x = if p.scr then scrambled_char p octets x else plain_char p octets chars x

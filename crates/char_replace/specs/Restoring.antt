@@ -11,14 +11,14 @@ use Rattle.code_8b10b.specs.declared.character.Reading.{Reading}
 use Rattle.code_8b10b.specs.declared.character.Reading.TheVariants.{Char as Read, Disparity, Invalid}
 use Rattle.code_8b10b.specs.Reads.{octet_read}
 use Rattle.char_replace.specs.declared.restored.Restored.{Restored}
-use Rattle.char_replace.specs.Replacement.{is_data, ends_multiframe, ends_frame}
+use Rattle.char_replace.specs.Replacement.{is_data, ends_multiframe, ends_frame_only}
 
 -- an alignment character is accepted at its place: /A/ at the end of a multiframe, /F/ at the end of another frame; without
 -- scrambling neither in the first data frame
 abbrev pub is_accepted : Params → ℕ → Char → Bool
 is_accepted p x (Data o) = false
 is_accepted p x (Control o) =
-    (((o == 0x7C) && ends_multiframe p x) || ((o == 0xFC) && ends_frame p x)) && (p.scr || nat_le p.f x)
+    (((o == 0x7C) && ends_multiframe p x) || ((o == 0xFC) && ends_frame_only p x)) && (p.scr || nat_le p.f x)
 
 -- a character is bad where it is Disparity, Invalid, or a control character that is not accepted at its place
 abbrev pub is_bad_char : Params → ℕ → Reading → Bool

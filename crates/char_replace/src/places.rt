@@ -1,7 +1,7 @@
 //! What ends at a place of a multiframe.
 ghost use Rattle.std.specs.Prelude.{ℕ, ◌≡◌, ◌%◌, ◌+◌, ◌==◌, ◌&&◌, ◌||◌, not};
 ghost use Rattle.link_params.specs.Numbers.{period};
-ghost use Rattle.char_replace.specs.Kept.{IsSerial};
+ghost use Rattle.char_replace.specs.kept.Ends.{IsSerial};
 ghost use Rattle.char_replace.specs.Replacement.{ends_multiframe, is_data};
 
 use code_8b10b::{Char, K28_3, K28_7};

@@ -4,7 +4,7 @@ ghost use Rattle.link_params.specs.declared.fields.Params.{Params as ParamsValue
 ghost use Rattle.link_params.specs.declared.fields.Mode.TheVariants.{B};
 ghost use Rattle.link_params.specs.Numbers.{period};
 ghost use Rattle.code_8b10b.specs.declared.character.Char.{Char as CharValue};
-ghost use Rattle.char_replace.specs.Kept.{HasReplaced, char_by_kept};
+ghost use Rattle.char_replace.specs.kept.Ends.{HasReplaced, char_by_kept};
 
 use crate::places::{is_data, is_frame_end, is_multiframe_end};
 use code_8b10b::{Char, K28_3, K28_7};
@@ -22,7 +22,7 @@ pub struct Replace {
 }
 
 impl Model for Replace {
-    ghost use Rattle.char_replace.specs.Kept.{Sender, IsSerial};
+    ghost use Rattle.char_replace.specs.kept.Ends.{Sender, IsSerial};
 
     ghost Value = { Sender };
 

@@ -5,7 +5,7 @@ ghost use Rattle.link_params.specs.declared.fields.Mode.TheVariants.{B};
 ghost use Rattle.link_params.specs.Numbers.{period};
 ghost use Rattle.code_8b10b.specs.declared.character.Reading.{Reading as ReadingValue};
 ghost use Rattle.char_replace.specs.declared.restored.Restored.{Restored as RestoredValue};
-ghost use Rattle.char_replace.specs.Kept.{HasRestored, accepted_by_kept, given_by_kept, given_of_char};
+ghost use Rattle.char_replace.specs.kept.Ends.{HasRestored, accepted_by_kept, given_by_kept, given_of_char};
 
 use crate::places::{is_alignment_of, is_frame_end, is_multiframe_end};
 use crate::restored::Restored;
@@ -23,7 +23,7 @@ pub struct Restore {
 }
 
 impl Model for Restore {
-    ghost use Rattle.char_replace.specs.Kept.{Receiver, IsSerial};
+    ghost use Rattle.char_replace.specs.kept.Ends.{Receiver, IsSerial};
 
     ghost Value = { Receiver };
 

@@ -11,7 +11,7 @@ use Rattle.code_8b10b.specs.declared.character.Char.{Char}
 use Rattle.code_8b10b.specs.Code.{spelling, after, after_six, sixes, fours, four_of_seven, controls}
 use Rattle.code_8b10b.specs.Reads.{char_at, data_at, control_at, place_in}
 use Rattle.code_8b10b.specs.Commas.{begins, commas, other_commas, stands_at}
-use Rattle.code_8b10b.specs.CommaLaws.{comma_bit, comma_window, NoSlip, AreSpellings, ChainIsSpelled, NoImitation}
+use Rattle.code_8b10b.specs.laws.CommaLaws.{comma_bit, comma_window, NoSlip, AreSpellings, ChainIsSpelled, NoImitation}
 use Rattle.code_8b10b.proofs.Tabulated.{tabulated, same_below}
 use Rattle.code_8b10b.proofs.Spellings.{char_at-spelling, ten_bits}
 use Rattle.code_8b10b.proofs.Places.{begins-rest, begins-short, length-commas, length-other_commas}

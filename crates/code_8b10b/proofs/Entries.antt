@@ -4,7 +4,7 @@ use Rattle.code_8b10b.specs.declared.character.Rd.TheVariants.{Minus, Plus}
 use Rattle.code_8b10b.specs.declared.character.Char.TheVariants.{Data, Control}
 use Rattle.code_8b10b.specs.declared.tables.TheConstants.{READINGS_MINUS, READINGS_PLUS, SPELLINGS_MINUS, SPELLINGS_PLUS}
 use Rattle.code_8b10b.specs.Code.{after, spelling, data_spelling, after_six, after_four, sixes, fours, four_of_seven, controls}
-use Rattle.code_8b10b.specs.Entries.{spelled_by, char_in, reading_in, disparity_in}
+use Rattle.code_8b10b.specs.kept.Entries.{spelled_by, char_in, reading_in, disparity_in}
 use Rattle.code_8b10b.specs.Reads.{reading, char_at, data_at, control_at, place_in}
 use Rattle.code_8b10b.proofs.Tabulated.{tabulated, same_below}
 

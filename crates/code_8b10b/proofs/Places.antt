@@ -7,7 +7,7 @@ use Rattle.code_8b10b.specs.declared.character.Rd.TheVariants.{Minus, Plus}
 use Rattle.code_8b10b.specs.declared.hunt.Lock.{Lock}
 use Rattle.code_8b10b.specs.Code.{after, after_six, after_four}
 use Rattle.code_8b10b.specs.Commas.{begins, begins_lock, commas, other_commas, stands_at, least_place, found, HasHunted}
-use Rattle.code_8b10b.specs.CommaLaws.{IsLeastPlace, FindsLeastPlace, FindsNoPlace}
+use Rattle.code_8b10b.specs.laws.CommaLaws.{IsLeastPlace, FindsLeastPlace, FindsNoPlace}
 
 -- ---- what a list begins with
 

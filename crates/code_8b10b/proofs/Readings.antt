@@ -6,7 +6,7 @@ use Rattle.code_8b10b.specs.declared.character.Reading.{Reading}
 use Rattle.code_8b10b.specs.declared.character.Reading.TheVariants.{Char as Read, Disparity, Invalid}
 use Rattle.code_8b10b.specs.Code.{other, spelling, IsReading}
 use Rattle.code_8b10b.specs.Reads.{char_at, reading, reading_of}
-use Rattle.code_8b10b.specs.CodeLaws.{OneReading, ReadsSpelling}
+use Rattle.code_8b10b.specs.laws.CodeLaws.{OneReading, ReadsSpelling}
 use Rattle.code_8b10b.proofs.Spellings.{char_at-spelling, spelling-char_at}
 
 -- no character at all is spelled where none reads back

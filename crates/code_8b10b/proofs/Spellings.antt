@@ -8,7 +8,7 @@ use Rattle.code_8b10b.specs.declared.character.Char.{Char}
 use Rattle.code_8b10b.specs.declared.character.Char.TheVariants.{Data, Control}
 use Rattle.code_8b10b.specs.Code.{spelling, data_spelling, after_six, sixes, fours, four_of_seven, controls, Row, column}
 use Rattle.code_8b10b.specs.Reads.{char_at, data_at, control_at, place_in}
-use Rattle.code_8b10b.specs.CodeLaws.{OneCharacter, TenBits}
+use Rattle.code_8b10b.specs.laws.CodeLaws.{OneCharacter, TenBits}
 use Rattle.code_8b10b.proofs.Tabulated.{tabulated, same_below}
 
 unfoldable pub spells : Option ℕ → ℕ → Bool

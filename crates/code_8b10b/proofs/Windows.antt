@@ -7,10 +7,10 @@ use Rattle.std.proofs.lemmas.List.{append-nil}
 use Rattle.std.proofs.lemmas.Nat.{shr_split}
 use Rattle.std.proofs.lemmas.Bool.{cases_Bool, eqb-true, eqb-false, eq-eqb, or_cases, or_left, or_right, false_from_ne_true}
 use Rattle.jesd_base.specs.Bits.{bits, value}
-use Rattle.jesd_base.specs.BitLaws.{ValueOfBits, BitsOfValue, BitsOfBoth}
+use Rattle.jesd_base.specs.laws.BitLaws.{ValueOfBits, BitsOfValue, BitsOfBoth}
 use Rattle.code_8b10b.specs.declared.character.Rd.TheVariants.{Minus, Plus}
 use Rattle.code_8b10b.specs.Commas.{begins, commas, other_commas, stands_at, found}
-use Rattle.code_8b10b.specs.CommaLaws.{IsLeastPlace}
+use Rattle.code_8b10b.specs.laws.CommaLaws.{IsLeastPlace}
 use Rattle.code_8b10b.proofs.Places.{begins-self, begins-append, begins-rest, length-commas, length-other_commas, found-commas, found-other_commas}
 
 -- the laws of bits and numbers that are used here

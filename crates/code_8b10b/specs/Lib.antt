@@ -1,6 +1,5 @@
 pub mod Code
 pub mod Reads
-pub mod CodeLaws
 pub mod Commas
-pub mod CommaLaws
-pub mod Entries
+pub mod kept
+pub mod laws

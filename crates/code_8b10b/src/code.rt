@@ -1,7 +1,7 @@
 //! The code, both ways: one access to a table for each character.
 ghost use Rattle.std.specs.Prelude.{◌≡◌, ◌<◌, ℕ, option_map};
 ghost use Rattle.code_8b10b.specs.Code.{after, spelling, IsReading};
-ghost use Rattle.code_8b10b.specs.Entries.{disparity_in, reading_in, spelled_by};
+ghost use Rattle.code_8b10b.specs.kept.Entries.{disparity_in, reading_in, spelled_by};
 ghost use Rattle.code_8b10b.specs.Reads.{reading};
 
 use crate::character::{Char, Rd, Reading};

@@ -1,6 +1,6 @@
 //! Laws of the code and of the commas' places.
-ghost use Rattle.code_8b10b.specs.CodeLaws.{OneCharacter, OneReading, ReadsSpelling, TenBits};
-ghost use Rattle.code_8b10b.specs.CommaLaws.{ChainIsSpelled, FindsLeastPlace, FindsNoPlace, NoImitation, NoSlip};
+ghost use Rattle.code_8b10b.specs.laws.CodeLaws.{OneCharacter, OneReading, ReadsSpelling, TenBits};
+ghost use Rattle.code_8b10b.specs.laws.CommaLaws.{ChainIsSpelled, FindsLeastPlace, FindsNoPlace, NoImitation, NoSlip};
 
 /// What spellings and readings have to do with each other.
 pub fn code_laws()

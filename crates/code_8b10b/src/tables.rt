@@ -1,4 +1,4 @@
-//! The tables of the code, one access for each direction and disparity. `specs/Entries.antt` says what an entry holds.
+//! The tables of the code, one access for each direction and disparity. `specs/kept/Entries.antt` says what an entry holds.
 
 // By octet, from negative disparity: 256 data octets, then 256 control octets; 0 where there is no spelling.
 #[rattlefmt::skip]

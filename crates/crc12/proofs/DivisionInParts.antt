@@ -4,9 +4,9 @@ use Rattle.std.proofs.lemmas.List.{take-append-drop}
 use Rattle.std.proofs.lemmas.Nat.{xor_comm}
 use Rattle.std.specs.Int.Bits.{xor_assoc}
 use Rattle.jesd_base.specs.Bits.{add, bits, value, zeros}
-use Rattle.jesd_base.specs.BitLaws.{BitsLength, ValueOfBits, BitsOfValue, ValueBelow, ValueOfAppend}
+use Rattle.jesd_base.specs.laws.BitLaws.{BitsLength, ValueOfBits, BitsOfValue, ValueBelow, ValueOfAppend}
 use Rattle.jesd_base.specs.Division.{add_bits, divide, rem}
-use Rattle.jesd_base.specs.DivisionLaws.{SumIsXor, RemainderIsLinear, RemainderLength, ZerosInFront, RemainderGoesOn}
+use Rattle.jesd_base.specs.laws.DivisionLaws.{SumIsXor, RemainderIsLinear, RemainderLength, ZerosInFront, RemainderGoesOn}
 use Rattle.crc12.specs.Crc.{divisor, crc}
 
 length-divisor : length divisor ≡ 12

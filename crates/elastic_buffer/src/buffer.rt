@@ -1,6 +1,6 @@
 //! A queue of cells with room for so many.
 ghost use Rattle.std.specs.Prelude.{◌≡◌, ◌<◌, ◌≤◌, ◌++◌, ◌∷◌, [], length, IfOk};
-ghost use Rattle.elastic_buffer.specs.Queues.{Queue};
+ghost use Rattle.elastic_buffer.specs.kept.Queues.{Queue};
 
 use circular_buffer::HeapCircularBuffer;
 use jesd_base::NoMemory;
@@ -16,7 +16,7 @@ pub struct ElasticBuffer {
 
 impl Model for ElasticBuffer {
     ghost use Rattle.std.specs.Prelude.{◌<◌, ◌≤◌, ◌^◌, length};
-    ghost use Rattle.elastic_buffer.specs.Queues.{Queue};
+    ghost use Rattle.elastic_buffer.specs.kept.Queues.{Queue};
 
     ghost Value = { Queue };
 

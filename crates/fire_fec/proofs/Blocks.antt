@@ -8,8 +8,8 @@ use mir.Syntax.{w64}
 use Rattle.jesd_base.specs.Bits.{add, bits, value, zeros}
 use Rattle.jesd_base.specs.Division.{add_bits, rem}
 use Rattle.fire_fec.specs.Burst.{fire, parity}
-use Rattle.fire_fec.specs.Shifting.{times_x, times_pow, over_x}
-use Rattle.fire_fec.specs.Taking.{block_taken, times_power}
+use Rattle.fire_fec.specs.kept.Shifting.{times_x, times_pow, over_x}
+use Rattle.fire_fec.specs.kept.Taking.{block_taken, times_power}
 use Rattle.fire_fec.specs.declared.tables.TheConstants.{TABLES}
 use Rattle.fire_fec.proofs.Dividing.{remainder_is_linear, sum_is_xor, add_length_below, value-lt}
 use Rattle.fire_fec.proofs.Numbers.{bits_length, bits_of_both, bits-xor, bits-zero}

@@ -3,7 +3,7 @@ use Rattle.std.proofs.Common.{◌≡◌, ℕ, zero, suc, ◌+◌, ◌-◌, ◌*�
 use Rattle.std.specs.Int.Bits.{xor_assoc, xor_self, xor_zero_r, xor_block}
 use Rattle.std.proofs.lemmas.Nat.{xor_mod, xor_lt}
 use Rattle.std.proofs.lemmas.Bool.{cases_lt, lt-ltb, le-ltb}
-use Rattle.fire_fec.specs.Shifting.{times_x, times_pow, over_x, over_pow}
+use Rattle.fire_fec.specs.kept.Shifting.{times_x, times_pow, over_x, over_pow}
 use Rattle.fire_fec.proofs.Free.{times_pow_small, times_pow_add}
 
 pub over_x_small : (r : ℕ) → r < 2 ^ 26 → over_x r < 2 ^ 26

@@ -7,9 +7,9 @@ use Rattle.std.proofs.Math.Seq.{take-append_seam}
 use Rattle.jesd_base.specs.Bits.{bits, value, zeros, all_zero}
 use Rattle.jesd_base.specs.Division.{divide, rem}
 use Rattle.fire_fec.specs.Burst.{fire, Burst, parity, burst_added, burst}
-use Rattle.fire_fec.specs.Shifting.{trapped}
+use Rattle.fire_fec.specs.kept.Shifting.{trapped}
 use Rattle.fire_fec.specs.Corrects.{payload_bits, received}
-use Rattle.fire_fec.specs.CorrectionLaws.{ParityBelow, ParityMakesWhole, OneBurstIsCorrected}
+use Rattle.fire_fec.specs.laws.CorrectionLaws.{ParityBelow, ParityMakesWhole, OneBurstIsCorrected}
 use Rattle.fire_fec.specs.declared.fix.Fix.TheVariants.{Whole, Fixed, Uncorrectable}
 use Rattle.fire_fec.proofs.Numbers.{bits_length}
 use Rattle.fire_fec.proofs.Trapping.{burst_is_trapped, one_burst_is_found, value-all_zero}

@@ -4,7 +4,7 @@ use Rattle.std.proofs.Math.Nat.{pow-suc}
 use Rattle.std.specs.Int.Bits.{xor_block}
 use Rattle.jesd_base.specs.Bits.{add, bit, value}
 use Rattle.jesd_base.specs.Division.{add_bits, divide, rem}
-use Rattle.jesd_base.specs.DivisionLaws.{shift, shift_all, DivisionIsShifting, SumIsXor, RemainderIsLinear}
+use Rattle.jesd_base.specs.laws.DivisionLaws.{shift, shift_all, DivisionIsShifting, SumIsXor, RemainderIsLinear}
 
 add_bits-length : (xs ys : List Bool) → length xs ≡ length ys → length (add_bits xs ys) ≡ length ys
 add_bits-length [] ys e = refl

@@ -3,7 +3,7 @@ use Rattle.std.proofs.Common.{◌≡◌, ℕ, zero, suc, ◌+◌, ◌-◌, ◌*�
 use Rattle.std.specs.Int.Bits.{xor_assoc, xor_self, xor_zero_r, xor_block}
 use Rattle.std.proofs.lemmas.Nat.{xor_mod, xor_lt}
 use Rattle.std.proofs.lemmas.Bool.{and_parts, or_cases, cases_lt, ltb-true, leb-true, lt-ltb, le-ltb}
-use Rattle.fire_fec.specs.Shifting.{times_x, times_pow, over_x}
+use Rattle.fire_fec.specs.kept.Shifting.{times_x, times_pow, over_x}
 
 -- nine bits, the first of them 1
 abbrev pub IsMask : ℕ → Type 0

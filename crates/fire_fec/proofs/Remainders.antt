@@ -6,7 +6,7 @@ use mir.Syntax.{w64}
 use Rattle.jesd_base.specs.Bits.{bits, value, zeros}
 use Rattle.jesd_base.specs.Division.{add_bits, divide, rem}
 use Rattle.fire_fec.specs.Burst.{fire, parity}
-use Rattle.fire_fec.specs.Shifting.{times_pow}
+use Rattle.fire_fec.specs.kept.Shifting.{times_pow}
 use Rattle.fire_fec.proofs.Dividing.{division_is_shifting, sum_is_xor, remainder_is_linear, value-lt, add_comm_bits, pow_double}
 use Rattle.fire_fec.proofs.Numbers.{bits_length, value_of_bits, bits_of_both, bits-split, bits-low, bits-zero}
 use Rattle.fire_fec.proofs.Single.{zeros-length, fire-length, rem-zeros, rem-behind, rem-length, value-shifts, value-push, add-zeros}

@@ -5,9 +5,9 @@ use Rattle.std.proofs.lemmas.Nat.{xor_comm}
 use Rattle.std.proofs.lemmas.Bool.{lt-ltb, le-ltb}
 use Rattle.jesd_base.specs.Bits.{bits, value, zeros}
 use Rattle.jesd_base.specs.Division.{add_bits, rem, divide}
-use Rattle.jesd_base.specs.DivisionLaws.{shift, shift_all}
+use Rattle.jesd_base.specs.laws.DivisionLaws.{shift, shift_all}
 use Rattle.fire_fec.specs.Burst.{fire}
-use Rattle.fire_fec.specs.Shifting.{times_x, times_pow}
+use Rattle.fire_fec.specs.kept.Shifting.{times_x, times_pow}
 use Rattle.fire_fec.proofs.Dividing.{division_is_shifting, sum_is_xor, value-lt, pow_double, shift-length}
 
 -- the word p has the nine bits at place s and zeros elsewhere; those that fall past its 2,074 bits are 0

@@ -6,7 +6,7 @@ use Rattle.std.proofs.Math.Nat.{mul-le-mul_right, mul-lt-mul_of_pos_right}
 use Rattle.std.proofs.Math.Pow.{pow_mono}
 use Rattle.jesd_base.specs.Bits.{bits, all_zero}
 use Rattle.fire_fec.specs.Burst.{Burst, fits}
-use Rattle.fire_fec.specs.Shifting.{times_x, times_pow, over_x, over_pow, is_mask_at, trapped_from, trapped}
+use Rattle.fire_fec.specs.kept.Shifting.{times_x, times_pow, over_x, over_pow, is_mask_at, trapped_from, trapped}
 use Rattle.fire_fec.proofs.Free.{all_below, all_below_at, times_pow_same, times_pow_add, bursts_differ_hold}
 use Rattle.fire_fec.proofs.Carried.{carried, carried-next, carried-whole, over_pow_small, times_over_pow}
 use Rattle.fire_fec.proofs.Trapping.{trapped_from-yes, trapped_from-no}

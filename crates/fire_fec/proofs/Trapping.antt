@@ -7,8 +7,8 @@ use Rattle.jesd_base.specs.Bits.{add, bits, value, zeros, all_zero}
 use Rattle.jesd_base.specs.Division.{add_bits, rem}
 use Rattle.jesd_base.specs.Search.{first_from, first_found}
 use Rattle.fire_fec.specs.Burst.{fire, Burst, burst_added, fits, explains, mask_at, burst}
-use Rattle.fire_fec.specs.Shifting.{times_x, times_pow, over_x, over_pow, is_mask_at, trapped_from, trapped}
-use Rattle.fire_fec.specs.BurstLaws.{OneBurstIsFound}
+use Rattle.fire_fec.specs.kept.Shifting.{times_x, times_pow, over_x, over_pow, is_mask_at, trapped_from, trapped}
+use Rattle.fire_fec.specs.laws.BurstLaws.{OneBurstIsFound}
 use Rattle.fire_fec.proofs.Dividing.{remainder_is_linear, add_length_below, value-lt, add_twice, add_comm_bits}
 use Rattle.fire_fec.proofs.Free.{all_below, all_below_at, times_pow_same, bursts_differ_hold}
 use Rattle.fire_fec.proofs.Carried.{carried, carried-small, carried-next, carried-whole}

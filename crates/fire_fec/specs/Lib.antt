@@ -1,7 +1,4 @@
 pub mod Burst
 pub mod Corrects
-pub mod Shifting
-pub mod Taking
-pub mod BurstLaws
-pub mod CorrectionLaws
-pub mod ShiftingLaws
+pub mod kept
+pub mod laws

@@ -4,7 +4,7 @@
 //! divided by x until nine bits are left. Fewer than nine bits are at once a burst that reaches
 //! past the end of the word.
 ghost use Rattle.std.specs.Prelude.{◌≡◌, ◌+◌, ◌<◌, ◌≤◌, ◌^◌, IfSome, MatchOption, Some, None};
-ghost use Rattle.fire_fec.specs.Shifting.{trapped};
+ghost use Rattle.fire_fec.specs.kept.Shifting.{trapped};
 
 use crate::steps::Steps;
 use crate::trap::Trap;

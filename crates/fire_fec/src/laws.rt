@@ -1,8 +1,7 @@
 //! Laws of bursts, parity and correction.
-ghost use Rattle.fire_fec.specs.BurstLaws.{OneBurstIsFound, OnlyPair};
-ghost use Rattle.fire_fec.specs.CorrectionLaws.{OneBurstIsCorrected, ParityBelow, ParityMakesWhole};
-ghost use Rattle.fire_fec.specs.Shifting.{BurstIsTrapped};
-ghost use Rattle.fire_fec.specs.ShiftingLaws.{TimesXIsRemainder, TimesAndOverUndo};
+ghost use Rattle.fire_fec.specs.laws.BurstLaws.{OneBurstIsFound, OnlyPair};
+ghost use Rattle.fire_fec.specs.laws.CorrectionLaws.{OneBurstIsCorrected, ParityBelow, ParityMakesWhole};
+ghost use Rattle.fire_fec.specs.laws.ShiftingLaws.{TimesXIsRemainder, TimesAndOverUndo, BurstIsTrapped};
 
 /// The burst of a word is found from its remainder, is the only one, and is taken out by adding
 /// it again.

@@ -3,7 +3,7 @@ ghost use Rattle.std.specs.Prelude.{◌≡◌, ◌<◌, ◌^◌, Bool, List, ◌
 ghost use Rattle.jesd_base.specs.Bits.{bits, value};
 ghost use Rattle.fire_fec.specs.Burst.{parity};
 ghost use Rattle.fire_fec.specs.Corrects.{payload_bits};
-ghost use Rattle.fire_fec.specs.Taking.{block_taken};
+ghost use Rattle.fire_fec.specs.kept.Taking.{block_taken};
 
 use crate::tables::TABLES;
 use crate::word::CHECK_BITS;

@@ -4,8 +4,8 @@ ghost use Rattle.jesd_base.specs.Bits.{bits, value};
 ghost use Rattle.jesd_base.specs.Division.{rem};
 ghost use Rattle.fire_fec.specs.Burst.{fire, parity};
 ghost use Rattle.fire_fec.specs.Corrects.{received};
-ghost use Rattle.fire_fec.specs.Shifting.{over_x};
-ghost use Rattle.fire_fec.specs.Taking.{block_taken, times_power};
+ghost use Rattle.fire_fec.specs.kept.Shifting.{over_x};
+ghost use Rattle.fire_fec.specs.kept.Taking.{block_taken, times_power};
 
 use crate::remainder::after_block;
 use crate::steps::Steps;

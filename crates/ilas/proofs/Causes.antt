@@ -8,7 +8,8 @@ use Rattle.code_8b10b.specs.declared.character.Char.{Char}
 use Rattle.code_8b10b.specs.declared.character.Reading.{Reading}
 use Rattle.code_8b10b.specs.declared.character.Reading.TheVariants.{Char as Read, Disparity, Invalid}
 use Rattle.ilas.specs.Sequence.{ilas_char}
-use Rattle.ilas.specs.Checked.{cause_at, config_cause, is_allowed, octet_of_char}
+use Rattle.ilas.specs.Checked.{cause_at, config_cause, is_allowed}
+use Rattle.code_8b10b.specs.Reads.{octet_of_char}
 
 pub code-cause : (p : Params) (lane : ℕ) (rs : List Reading) (x : ℕ) (r : Reading) → ((c : Char) → r ≢ Read c) → Some Code ≡ cause_at p lane rs x r
 unfolding cause_at

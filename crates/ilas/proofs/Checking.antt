@@ -9,7 +9,7 @@ use Rattle.link_params.specs.declared.ilas_state.IlasState.TheVariants.{Going, D
 use Rattle.link_params.specs.Numbers.{period}
 use Rattle.code_8b10b.specs.declared.character.Reading.{Reading}
 use Rattle.ilas.specs.Checked.{cause_at, config_read, fault_or, first_fault, ilas_state}
-use Rattle.ilas.specs.Checks.{Checker, HasChecked, is_fault, stays, kept}
+use Rattle.ilas.specs.kept.Checks.{Checker, HasChecked, has_fault, stays, kept}
 use Rattle.ilas.proofs.Faults.{first_fault-more, stays-fault, stays-self, stays-going, fault_or-stays}
 use Rattle.ilas.proofs.Readings.{kept-more, kept-all}
 
@@ -24,7 +24,7 @@ state-is p lane [] r = refl
 state-is p lane (x ∷ rs) r = refl
 
 -- a fault stays with one reading more
-first-fault : (p : Params) (lane : ℕ) (rs : List Reading) (r : Reading) (state : IlasState) → is_fault state ≡ true
+first-fault : (p : Params) (lane : ℕ) (rs : List Reading) (r : Reading) (state : IlasState) → has_fault state ≡ true
     → ((later : IlasState) → first_fault p lane (taken p rs) 0 (taken p rs) later ≡ stays state later)
     → (later : IlasState) → first_fault p lane (taken p (rs ++ r ∷ [])) 0 (taken p (rs ++ r ∷ [])) later ≡ stays state later
 first-fault p lane rs r state fault h later =
@@ -39,12 +39,12 @@ first-fault p lane rs r state fault h later =
       | inr past ↦ rw (take-append-le n rs (r ∷ []) past) (h later)
     ]
 
-pub answer-fault : (now : Checker) (p : Params) (lane : ℕ) (rs : List Reading) (r : Reading) → HasChecked now p lane rs → is_fault now.state ≡ true
+pub answer-fault : (now : Checker) (p : Params) (lane : ℕ) (rs : List Reading) (r : Reading) → HasChecked now p lane rs → has_fault now.state ≡ true
     → now.state ≡ ilas_state p lane (rs ++ r ∷ [])
 answer-fault now p lane rs r h fault =
     sym (state-is p lane rs r ∙ first-fault p lane rs r now.state fault h.first _ ∙ stays-self now.state _ fault)
 
-pub checked-fault : (now : Checker) (p : Params) (lane : ℕ) (rs : List Reading) (r : Reading) → HasChecked now p lane rs → is_fault now.state ≡ true
+pub checked-fault : (now : Checker) (p : Params) (lane : ℕ) (rs : List Reading) (r : Reading) → HasChecked now p lane rs → has_fault now.state ≡ true
     → HasChecked now p lane (rs ++ r ∷ [])
 checked-fault now p lane rs r h fault = record {
   params = h.params;
@@ -54,7 +54,7 @@ checked-fault now p lane rs r h fault = record {
 }
 
 -- the first fault with one reading more, where there was none
-first-going : (now : Checker) (p : Params) (lane : ℕ) (rs : List Reading) (r : Reading) → HasChecked now p lane rs → is_fault now.state ≡ false
+first-going : (now : Checker) (p : Params) (lane : ℕ) (rs : List Reading) (r : Reading) → HasChecked now p lane rs → has_fault now.state ≡ false
     → (later : IlasState) → first_fault p lane (taken p (rs ++ r ∷ [])) 0 (taken p (rs ++ r ∷ [])) later
     ≡ fault_or (length rs) (cause_at p lane (rs ++ r ∷ []) (length rs) r) later
 first-going now p lane rs r h fault later =
@@ -77,7 +77,7 @@ ends-alike x n lt = elim (cases_lt (x + 1) n) [
   | inr past ↦ rw (eq-eqb (x + 1) n (omega arith), eq-eqb x (n - 1) (omega arith)) refl
 ]
 
-pub answer-going : (now : Checker) (p : Params) (lane : ℕ) (rs : List Reading) (r : Reading) → HasChecked now p lane rs → is_fault now.state ≡ false
+pub answer-going : (now : Checker) (p : Params) (lane : ℕ) (rs : List Reading) (r : Reading) → HasChecked now p lane rs → has_fault now.state ≡ false
     → next p lane rs r ≡ ilas_state p lane (rs ++ r ∷ [])
 answer-going now p lane rs r h fault =
     let n : ℕ = 4 * period p in
@@ -88,15 +88,15 @@ answer-going now p lane rs r h fault =
     let end : (length (take n (rs ++ r ∷ [])) == n) ≡ (length rs == n - 1) = ap (λ xs. length xs == n) more ∙ ap (λ x. x == n) long ∙ ends-alike (length rs) n short in
     sym (state-is p lane rs r ∙ first-going now p lane rs r h fault _ ∙ ap (λ (b : Bool). fault_or (length rs) (cause_at p lane (rs ++ r ∷ []) (length rs) r) (if b then Done else Going)) end)
 
-base-is : (b : Bool) → is_fault (if b then Done else Going) ≡ false
+base-is : (b : Bool) → has_fault (if b then Done else Going) ≡ false
 base-is true = refl
 base-is false = refl
 
-not-fault : (x : ℕ) (cause : Option IlasCause) (base : IlasState) → is_fault (fault_or x cause base) ≡ false → fault_or x cause base ≡ base
+not-fault : (x : ℕ) (cause : Option IlasCause) (base : IlasState) → has_fault (fault_or x cause base) ≡ false → fault_or x cause base ≡ base
 not-fault x (Some cause) base e = cc
 not-fault x None base e = refl
 
-pub checked-going : (now later : Checker) (p : Params) (lane : ℕ) (rs : List Reading) (r : Reading) → HasChecked now p lane rs → is_fault now.state ≡ false
+pub checked-going : (now later : Checker) (p : Params) (lane : ℕ) (rs : List Reading) (r : Reading) → HasChecked now p lane rs → has_fault now.state ≡ false
     → length now.octets ≡ 14 → later.params ≡ now.params → later.lane ≡ now.lane → later.place ≡ now.place + 1 → later.state ≡ next p lane rs r
     → later.octets ≡ kept now.octets (length rs) (period p + 2) r → later.state ≢ Done → HasChecked later p lane (rs ++ r ∷ [])
 checked-going now later p lane rs r h fault fourteen params of_lane place state octets more =
@@ -125,7 +125,7 @@ checked-going now later p lane rs r h fault fourteen params of_lane place state 
     }
 
 -- what the code keeps, in terms of the readings
-pub octets-next : (now : Checker) (p : Params) (lane : ℕ) (rs : List Reading) (r : Reading) (n : ℕ) (octets : List ℕ) → HasChecked now p lane rs → is_fault now.state ≡ false
+pub octets-next : (now : Checker) (p : Params) (lane : ℕ) (rs : List Reading) (r : Reading) (n : ℕ) (octets : List ℕ) → HasChecked now p lane rs → has_fault now.state ≡ false
     → n ≡ period now.params → octets ≡ kept now.octets now.place (n + 2) r → octets ≡ kept now.octets (length rs) (period p + 2) r
 octets-next now p lane rs r n octets h fault size e =
     let on = h.goes_on fault in
@@ -134,7 +134,7 @@ octets-next now p lane rs r n octets h fault size e =
 
 -- the state that the code gives
 pub state-next : (now : Checker) (p : Params) (lane : ℕ) (rs : List Reading) (r : Reading) (n : ℕ) (octets : List ℕ) (cause : Option IlasCause)
-    → HasChecked now p lane rs → is_fault now.state ≡ false → length now.octets ≡ 14 → n ≡ period now.params → octets ≡ kept now.octets now.place (n + 2) r
+    → HasChecked now p lane rs → has_fault now.state ≡ false → length now.octets ≡ 14 → n ≡ period now.params → octets ≡ kept now.octets now.place (n + 2) r
     → ((readings : List Reading) → (now.place ≡ period now.params + 15 → config_read now.params readings ≡ octets) → cause ≡ cause_at now.params now.lane readings now.place r)
     → fault_or now.place cause (if now.place == 4 * n - 1 then Done else Going) ≡ next p lane rs r
 state-next now p lane rs r n octets cause h fault fourteen size e why =

@@ -10,8 +10,9 @@ use Rattle.link_params.specs.Numbers.{period}
 use Rattle.code_8b10b.specs.declared.character.Reading.{Reading}
 use Rattle.code_8b10b.specs.declared.character.Reading.TheVariants.{Char as Read, Disparity, Invalid}
 use Rattle.ilas.specs.Sequence.{ilas_char}
-use Rattle.ilas.specs.Checked.{cause_at, config_cause, config_read, fault_or, first_fault, is_allowed, octet_of_char, octet_read}
-use Rattle.ilas.specs.Checks.{is_fault, stays}
+use Rattle.ilas.specs.Checked.{cause_at, config_cause, config_read, fault_or, first_fault, is_allowed}
+use Rattle.ilas.specs.kept.Checks.{has_fault, stays}
+use Rattle.code_8b10b.specs.Reads.{octet_of_char, octet_read}
 
 pub config_cause-same : (p : Params) (lane : ℕ) (rs others : List Reading) (i o : ℕ) → (i ≡ 13 → config_read p rs ≡ config_read p others)
     → config_cause p lane rs i o ≡ config_cause p lane others i o
@@ -68,24 +69,24 @@ first_fault-more p lane rs r s =
     ∙ ap (λ n. first_fault p lane all 0 rs (first_fault p lane all n (r ∷ []) s)) e
     ∙ first_fault-same p lane rs (r ∷ []) 0 rs (fault_or (length rs) (cause_at p lane all (length rs) r) s) (omega arith)
 
-pub stays-fault : (state a b : IlasState) → is_fault state ≡ true → stays state a ≡ stays state b
+pub stays-fault : (state a b : IlasState) → has_fault state ≡ true → stays state a ≡ stays state b
 stays-fault (Fault x cause) a b e = refl
 stays-fault Idle a b e = cc
 stays-fault Going a b e = cc
 stays-fault Done a b e = cc
 
-pub stays-self : (state later : IlasState) → is_fault state ≡ true → stays state later ≡ state
+pub stays-self : (state later : IlasState) → has_fault state ≡ true → stays state later ≡ state
 stays-self (Fault x cause) later e = refl
 stays-self Idle later e = cc
 stays-self Going later e = cc
 stays-self Done later e = cc
 
-pub stays-going : (state later : IlasState) → is_fault state ≡ false → stays state later ≡ later
+pub stays-going : (state later : IlasState) → has_fault state ≡ false → stays state later ≡ later
 stays-going (Fault x cause) later e = cc
 stays-going Idle later e = refl
 stays-going Going later e = refl
 stays-going Done later e = refl
 
-pub fault_or-stays : (x : ℕ) (cause : Option IlasCause) (base later : IlasState) → is_fault base ≡ false → fault_or x cause later ≡ stays (fault_or x cause base) later
+pub fault_or-stays : (x : ℕ) (cause : Option IlasCause) (base later : IlasState) → has_fault base ≡ false → fault_or x cause later ≡ stays (fault_or x cause base) later
 fault_or-stays x (Some cause) base later e = refl
 fault_or-stays x None base later e = sym (stays-going base later e)

@@ -7,7 +7,7 @@ use Rattle.link_params.specs.Config.{config_octets}
 use Rattle.code_8b10b.specs.declared.character.Char.{Char}
 use Rattle.code_8b10b.specs.declared.character.Char.TheVariants.{Data, Control}
 use Rattle.ilas.specs.Sequence.{chars_from, ilas_char}
-use Rattle.ilas.specs.SequenceLaws.{CharAtEachPlace}
+use Rattle.ilas.specs.laws.SequenceLaws.{CharAtEachPlace}
 
 pub start-char : (p : Params) (lane x n : ℕ) → n ≡ period p → x % n ≡ 0 → Control 0x1C ≡ ilas_char p lane x
 unfolding ilas_char

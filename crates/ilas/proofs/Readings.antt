@@ -5,9 +5,10 @@ use Rattle.std.proofs.lemmas.List.{drop-append-le}
 use Rattle.link_params.specs.declared.fields.Params.{Params}
 use Rattle.link_params.specs.Numbers.{period}
 use Rattle.code_8b10b.specs.declared.character.Reading.{Reading}
-use Rattle.ilas.specs.Checked.{config_read, octet_read}
-use Rattle.ilas.specs.Checks.{kept}
+use Rattle.ilas.specs.Checked.{config_read}
+use Rattle.ilas.specs.kept.Checks.{kept}
 use Rattle.ilas.proofs.Faults.{config_read-append}
+use Rattle.code_8b10b.specs.Reads.{octet_read}
 
 map-snoc : (xs : List Reading) (r : Reading) → map octet_read (xs ++ r ∷ []) ≡ map octet_read xs ++ octet_read r ∷ []
 map-snoc [] r = refl

@@ -1,4 +1,4 @@
 pub mod Sequence
 pub mod Checked
-pub mod Checks
-pub mod SequenceLaws
+pub mod kept
+pub mod laws

@@ -5,8 +5,9 @@ ghost use Rattle.link_params.specs.declared.fields.Mode.TheVariants.{B};
 ghost use Rattle.link_params.specs.declared.ilas_state.IlasState.TheVariants.{Done, Going};
 ghost use Rattle.link_params.specs.Numbers.{period};
 ghost use Rattle.code_8b10b.specs.declared.character.Reading.{Reading as ReadingValue};
-ghost use Rattle.ilas.specs.Checked.{ilas_state, cause_at, config_cause, config_read, fault_or, is_allowed, octet_of_char, octet_read};
-ghost use Rattle.ilas.specs.Checks.{HasChecked, is_fault, kept};
+ghost use Rattle.ilas.specs.Checked.{ilas_state, cause_at, config_cause, config_read, fault_or, is_allowed};
+ghost use Rattle.ilas.specs.kept.Checks.{HasChecked, has_fault, kept};
+ghost use Rattle.code_8b10b.specs.Reads.{octet_of_char, octet_read};
 
 use crate::sequence::ilas_char;
 use code_8b10b::{Char, Reading};
@@ -27,7 +28,7 @@ pub struct IlasCheck {
 impl Model for IlasCheck {
     ghost use Rattle.std.specs.Prelude.{◌≡◌, ◌<◌};
     ghost use Rattle.link_params.specs.declared.fields.Mode.TheVariants.{B};
-    ghost use Rattle.ilas.specs.Checks.{Checker};
+    ghost use Rattle.ilas.specs.kept.Checks.{Checker};
 
     ghost Value = { Checker };
 
@@ -102,7 +103,7 @@ fn next_state(place: u32, last: u32, cause: Option<IlasCause>) -> IlasState
 }
 
 fn is_fault(state: IlasState) -> bool
-    ensures { result ≡ is_fault state }
+    ensures { result ≡ has_fault state }
 {
     matches!(state, IlasState::Fault { .. })
 }

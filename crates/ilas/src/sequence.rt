@@ -3,7 +3,7 @@ ghost use Rattle.std.specs.Prelude.{◌≡◌, ◌<◌, ◌*◌};
 ghost use Rattle.link_params.specs.declared.fields.Mode.TheVariants.{B};
 ghost use Rattle.link_params.specs.Numbers.{period};
 ghost use Rattle.ilas.specs.Sequence.{ilas_char};
-ghost use Rattle.ilas.specs.SequenceLaws.{CharAtEachPlace};
+ghost use Rattle.ilas.specs.laws.SequenceLaws.{CharAtEachPlace};
 
 use code_8b10b::{Char, K28_0, K28_3, K28_4};
 use link_params::{Link, config_octets};

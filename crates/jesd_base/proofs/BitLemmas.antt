@@ -6,7 +6,7 @@ use Rattle.std.proofs.lemmas.Nat.Bits.{bit_at_cat_low, bit_at_cat_high, bit_at-l
 use Rattle.std.proofs.lemmas.Bool.{cases_Bool, cases_lt, true≢false}
 use Rattle.std.specs.Int.{bit_at}
 use Rattle.jesd_base.specs.Bits.{bit, bits, value, zeros}
-use Rattle.jesd_base.specs.BitLaws.{BitsLength, ValueOfBits, BitsOfValue, ValueBelow, ValueOfAppend, BitsOfBoth, BitsOfParts, ZerosLength}
+use Rattle.jesd_base.specs.laws.BitLaws.{BitsLength, ValueOfBits, BitsOfValue, ValueBelow, ValueOfAppend, BitsOfBoth, BitsOfParts, ZerosLength}
 use Rattle.jesd_base.specs.Search.{first_from, IsLeast, FindsLeast, FindsNone}
 
 pub pow_double : (n : ℕ) → 2 ^ suc n ≡ 2 * 2 ^ n

@@ -5,7 +5,7 @@ use Rattle.std.proofs.Math.Nat.{suc-add, mod-eq-sub-mod, mod-eq_of_lt}
 use Rattle.std.specs.Int.Bits.{xor_block}
 use Rattle.jesd_base.specs.Bits.{add, bit, bits, value, zeros}
 use Rattle.jesd_base.specs.Division.{add_bits, divide, rem}
-use Rattle.jesd_base.specs.DivisionLaws.{shift, shift_all, DivisionIsShifting, SumIsXor, RemainderIsLinear, RemainderLength, ZerosInFront, RemainderGoesOn}
+use Rattle.jesd_base.specs.laws.DivisionLaws.{shift, shift_all, DivisionIsShifting, SumIsXor, RemainderIsLinear, RemainderLength, ZerosInFront, RemainderGoesOn}
 use Rattle.std.proofs.lemmas.Nat.{xor_comm}
 use Rattle.std.proofs.Math.Pow.{pow_mono}
 use Rattle.std.proofs.lemmas.Bool.{cases_lt}

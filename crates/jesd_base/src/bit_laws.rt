@@ -1,6 +1,6 @@
 //! Laws of bits, numbers and long division.
-ghost use Rattle.jesd_base.specs.BitLaws.{BitsLength, BitsOfBoth, BitsOfParts, BitsOfValue, ValueBelow, ValueOfAppend, ValueOfBits, ZerosLength};
-ghost use Rattle.jesd_base.specs.DivisionLaws.{DivisionIsShifting, RemainderGoesOn, RemainderIsLinear, RemainderLength, SumIsXor, ZerosInFront};
+ghost use Rattle.jesd_base.specs.laws.BitLaws.{BitsLength, BitsOfBoth, BitsOfParts, BitsOfValue, ValueBelow, ValueOfAppend, ValueOfBits, ZerosLength};
+ghost use Rattle.jesd_base.specs.laws.DivisionLaws.{DivisionIsShifting, RemainderGoesOn, RemainderIsLinear, RemainderLength, SumIsXor, ZerosInFront};
 ghost use Rattle.jesd_base.specs.Search.{FindsLeast, FindsNone};
 
 /// How lists of bits and numbers go together.

@@ -1,7 +1,7 @@
 //! A sink in memory.
 ghost use Rattle.std.specs.Prelude.{◌≡◌, ◌<◌, ◌≤◌, ◌↔◌, ◌⊎◌, ◌-◌, ◌+◌, ◌^◌, ℕ, List, [], ◌++◌, Some, Contains, length, take, min, vec_len, vec_capacity, IfOk, IsErr, OnErr};
 ghost use Rattle.jesd_base.specs.Streams.{Rose, Added};
-ghost use Rattle.jesd_base.specs.Memory.{Store};
+ghost use Rattle.jesd_base.specs.kept.Memory.{Store};
 
 use crate::mem_source::is_among;
 use crate::sink::Sink;

@@ -1,7 +1,7 @@
 //! A source in memory.
 ghost use Rattle.std.specs.Prelude.{◌≡◌, ◌<◌, ◌≤◌, ◌↔◌, ◌-◌, ◌+◌, ◌^◌, ℕ, List, [], ◌++◌, Some, Contains, length, take, drop, min, IfOk, IsErr, IsTrue, OnErr};
 ghost use Rattle.jesd_base.specs.Streams.{Rose, Gave, IsAtEnd};
-ghost use Rattle.jesd_base.specs.Memory.{Supply};
+ghost use Rattle.jesd_base.specs.kept.Memory.{Supply};
 
 use crate::source::{Failed, Source};
 use std::marker::Model;

@@ -6,9 +6,9 @@ use Rattle.std.proofs.Math.Pow.{pow_pos}
 use Rattle.std.proofs.lemmas.Nat.{and_mask, or_shifted}
 use Rattle.std.specs.Int.Bits.{bit_and, bit_or}
 use Rattle.jesd_base.specs.Bits.{bits, value}
-use Rattle.jesd_base.specs.BitLaws.{ValueOfBits, BitsOfBoth, BitsOfParts}
+use Rattle.jesd_base.specs.laws.BitLaws.{ValueOfBits, BitsOfBoth, BitsOfParts}
 use Rattle.code_8b10b.proofs.Windows.{length-bits, drop-bits}
-use Rattle.lane_b.specs.Across.{ten_across}
+use Rattle.lane_b.specs.kept.Across.{ten_across}
 
 take-bits : (m : ℕ) (xs ys : List Bool) → length xs ≡ m → take m (xs ++ ys) ≡ xs
 take-bits m xs ys e = rw (← e) (take-append_seam xs ys)

@@ -4,7 +4,7 @@ use Rattle.std.proofs.Math.Seq.{drop-append-le, drop-drop}
 use Rattle.std.proofs.lemmas.List.{get_or-drop}
 use Rattle.link_params.specs.declared.cells.LaneCell.{LaneCell}
 use Rattle.link_params.specs.Lanes.{Entry, Placed, Held}
-use Rattle.lane_b.specs.Gives.{given, WaitsFor, Wait, AreInOrder, Holds, ComesInOrder}
+use Rattle.lane_b.specs.kept.Gives.{given, WaitsFor, Wait, AreInOrder, Holds, ComesInOrder}
 
 -- ---- an entry comes
 

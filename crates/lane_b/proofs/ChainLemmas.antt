@@ -8,7 +8,7 @@ use Rattle.code_8b10b.specs.declared.character.Reading.{Reading}
 use Rattle.code_8b10b.specs.Code.{after}
 use Rattle.code_8b10b.specs.Reads.{reading, readings}
 use Rattle.lane_b.specs.Locking.{tens, words_in, is_comma, from_other, is_empty}
-use Rattle.lane_b.specs.Senders.{rd_after}
+use Rattle.lane_b.specs.kept.Senders.{rd_after}
 
 pub tens-add : (m k : ℕ) (bs : List Bool) → tens (m + k) bs ≡ tens m bs ++ tens k (drop (10 * m) bs)
 unfolding tens

@@ -17,8 +17,8 @@ use Rattle.code_8b10b.specs.declared.character.Char.TheVariants.{Data}
 use Rattle.lane_scramble.specs.Scrambling.{scrambled15, start15}
 use Rattle.lane_scramble.proofs.ScrambleLemmas.{keep_length}
 use Rattle.char_replace.specs.Replacement.{char_due}
-use Rattle.char_replace.specs.Kept.{Sender as Replacer, HasReplaced}
-use Rattle.lane_b.specs.Senders.{Carries}
+use Rattle.char_replace.specs.kept.Ends.{Sender as Replacer, HasReplaced}
+use Rattle.lane_b.specs.kept.Senders.{Carries}
 use Rattle.lane_b.specs.Sent.{octets_of, scrambled_octets, coded_octets, replaced, data_char}
 
 -- ---- scrambled octets

@@ -4,7 +4,7 @@ use Rattle.std.specs.Int.Bits.{bit_or}
 use Rattle.std.proofs.lemmas.List.{reverse-append}
 use Rattle.jesd_base.specs.Bits.{bit}
 use Rattle.lane_b.specs.Loss.{has_four_faults, has_four_misplaced, with_option}
-use Rattle.lane_b.specs.Counts.{Counter, HasCounted, number, misplaced_after}
+use Rattle.lane_b.specs.kept.Counts.{Counter, HasCounted, number, misplaced_after}
 use Rattle.lane_b.proofs.Histories.{number-next, count_ones-number, four_faults-next, late}
 use Rattle.lane_b.proofs.Misplaced.{misplaced-append, four_misplaced-more, up_to_four, four-of_min}
 

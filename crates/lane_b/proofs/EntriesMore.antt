@@ -15,7 +15,7 @@ use Rattle.code_8b10b.specs.declared.character.Reading.{Reading}
 use Rattle.code_8b10b.specs.declared.character.Reading.TheVariants.{Invalid}
 use Rattle.char_replace.specs.declared.restored.Restored.{Restored}
 use Rattle.char_replace.specs.Restoring.{given_at}
-use Rattle.lane_b.specs.Cells.{octets_read}
+use Rattle.lane_b.specs.kept.Cells.{octets_read}
 use Rattle.lane_b.specs.Loss.{ilas_length}
 use Rattle.lane_b.specs.Received.{data_cells, entries_since, restored}
 use Rattle.lane_b.proofs.Giving.{cell-plain, cell-scrambled}

@@ -8,7 +8,7 @@ use Rattle.code_8b10b.specs.declared.character.Reading.{Reading}
 use Rattle.lane_b.specs.Loss.{ilas_length}
 use Rattle.lane_b.specs.Sent.{octets_of}
 use Rattle.lane_b.specs.Received.{restored, descrambled_octets, spread, cells, data_cells, entries_since}
-use Rattle.lane_b.specs.Gives.{AreInOrder, ComesInOrder}
+use Rattle.lane_b.specs.kept.Gives.{AreInOrder, ComesInOrder}
 
 no_place_last : (es : List Entry) (ds : List LaneCell) → map Held ds ≡ es ++ Placed ∷ [] → ⊥
 no_place_last [] [] e = cc

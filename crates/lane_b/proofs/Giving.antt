@@ -13,7 +13,7 @@ use Rattle.code_8b10b.specs.declared.character.Reading.{Reading}
 use Rattle.char_replace.specs.declared.restored.Restored.{Restored}
 use Rattle.lane_b.specs.Sent.{octets_of}
 use Rattle.lane_b.specs.Received.{restored, cells, data_cells, descrambled_octets, marked, spread}
-use Rattle.lane_b.specs.Cells.{last_of, last_but_one_of, octets_read, bad_read}
+use Rattle.lane_b.specs.kept.Cells.{last_of, last_but_one_of, octets_read, bad_read}
 
 -- ---- marks
 

@@ -10,7 +10,7 @@ use Rattle.std.proofs.lemmas.List.{take_all, take-append-le, reverse-append, len
 use Rattle.std.proofs.lemmas.List.Sums.{sum_by-cons}
 use Rattle.jesd_base.specs.Bits.{bit}
 use Rattle.lane_b.specs.Loss.{some_rest, has_four_faults}
-use Rattle.lane_b.specs.Counts.{number}
+use Rattle.lane_b.specs.kept.Counts.{number}
 
 -- ---- the number
 

@@ -10,10 +10,10 @@ use Rattle.code_8b10b.specs.declared.character.Reading.{Reading}
 use Rattle.code_8b10b.specs.declared.character.Reading.TheVariants.{Char as Read, Disparity, Invalid}
 use Rattle.char_replace.specs.Replacement.{ends_multiframe}
 use Rattle.char_replace.specs.Restoring.{is_accepted}
-use Rattle.char_replace.specs.Kept.{IsSerial}
+use Rattle.char_replace.specs.kept.Ends.{IsSerial}
 use Rattle.char_replace.proofs.FramePlaces.{mod-multiple, mod-next, mod-wrap, has_period}
 use Rattle.lane_b.specs.Loss.{accepted_or_misplaced, alignment_at, ilas_length, is_accepted_since, is_alignment}
-use Rattle.lane_b.specs.Starts.{kept_place, next_place}
+use Rattle.lane_b.specs.kept.Starts.{kept_place, next_kept_place}
 
 pub kept-low : (period n : ℕ) → n < 5 * period → kept_place period n ≡ n
 kept-low period n below = rw (lt-ltb n (5 * period) below) refl
@@ -46,11 +46,11 @@ kept-past period n past = elim (cases_lt n (4 * period)) [
   | inr there ↦ there
 ]
 
-pub kept-next : (period n : ℕ) → 1 ≤ period → next_place period (kept_place period n) ≡ kept_place period (n + 1)
+pub kept-next : (period n : ℕ) → 1 ≤ period → next_kept_place period (kept_place period n) ≡ kept_place period (n + 1)
 kept-next period n some = elim (cases_lt n (5 * period)) [
   | inl below ↦
       let apart = ne_eqb (n + 1) (6 * period) (λ e. omega arith) in
-      let step : next_place period (kept_place period n) ≡ n + 1 = rw (kept-low period n below, apart) refl in
+      let step : next_kept_place period (kept_place period n) ≡ n + 1 = rw (kept-low period n below, apart) refl in
       elim (cases_lt (n + 1) (5 * period)) [
         | inl inside ↦ step ∙ sym (kept-low period (n + 1) inside)
         | inr end ↦

@@ -14,7 +14,7 @@ use Rattle.code_8b10b.proofs.Places.{finds_least_place, nowhere-found, stands_at
 use Rattle.lane_b.specs.Locking.{Lock, bits_taken, bits_to_start, from_other, is_comma, is_dropped, is_empty, lock, lock_at, lock_from, no_order, order_at, since_start, start_of, tick_of_start}
 use Rattle.lane_b.specs.Loss.{ilas_length}
 use Rattle.lane_b.specs.Received.{data_cells, entries_b, entries_of, entries_since, is_started_inside, report_b, report_of}
-use Rattle.lane_b.specs.Receivers.{AreTens, Searches}
+use Rattle.lane_b.specs.kept.Receivers.{AreTens, Searches}
 use Rattle.lane_b.proofs.ChainLemmas.{from_other-append_none, from_other-append_some, is_empty-append, is_empty-nil}
 use Rattle.lane_b.proofs.PlaceLemmas.{inside_of, least_place-from, zero_place}
 use Rattle.lane_b.proofs.SearchLemmas.{are_tens-more, bits_to_start-inside, later_readings, least-more, length-bits_taken, length-read, lock-none, lock-some, order_of_start-more, place-lock_at, read-append, searches-drop, searches-more, searches-start}

@@ -13,12 +13,12 @@ use Rattle.link_params.specs.Lanes.{Taken}
 use Rattle.code_8b10b.specs.declared.character.Reading.{Reading}
 use Rattle.ilas.specs.Checked.{cause_at, fault_or, first_fault, ilas_state}
 use Rattle.ilas.proofs.Faults.{first_fault-more}
-use Rattle.lane_b.specs.LaneLaws.{DoneLasts, FaultLasts, LossLasts, StartLasts}
+use Rattle.lane_b.specs.laws.LaneLaws.{DoneLasts, FaultLasts, LossLasts, StartLasts}
 use Rattle.lane_b.specs.Locking.{Lock, bits_taken, is_empty, lock, lock_at, order_at, since_start, start_of, tick_of_start}
 use Rattle.lane_b.specs.Loss.{alignment_at, alignments_from, faults_from, has_four_faults, has_four_misplaced, ilas_length, is_fault, is_lost, some_rest, with_option}
-use Rattle.lane_b.specs.Counts.{misplaced_after}
+use Rattle.lane_b.specs.kept.Counts.{misplaced_after}
 use Rattle.lane_b.specs.Received.{report_b, report_of}
-use Rattle.lane_b.specs.Receivers.{AreTens}
+use Rattle.lane_b.specs.kept.Receivers.{AreTens}
 use Rattle.lane_b.proofs.ChainLemmas.{is_empty-nil}
 use Rattle.lane_b.proofs.Histories.{four_faults-next, late}
 use Rattle.lane_b.proofs.LaneEntries.{Holds, Nowhere, lock-held, search-stands, start-begun, start-unbegun}

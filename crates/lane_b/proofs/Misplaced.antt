@@ -4,7 +4,7 @@ use Rattle.std.proofs.lemmas.Bool.{cases_lt, cases_Bool, lt-leb}
 use Rattle.std.proofs.lemmas.List.{append-nil}
 use Rattle.code_8b10b.specs.Commas.{begins}
 use Rattle.lane_b.specs.Loss.{some_rest, has_four_misplaced, with_option}
-use Rattle.lane_b.specs.Counts.{misplaced_after}
+use Rattle.lane_b.specs.kept.Counts.{misplaced_after}
 use Rattle.lane_b.proofs.Histories.{or-assoc}
 
 pub misplaced-append : (n : ℕ) (xs ys : List Bool) → misplaced_after n (xs ++ ys) ≡ misplaced_after (misplaced_after n xs) ys

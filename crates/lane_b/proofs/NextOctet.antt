@@ -2,7 +2,7 @@
 use Rattle.std.proofs.Common.{◌≡◌, ℕ, suc, ◌%◌, ◌<◌, Bool, true, false, List, [], ◌∷◌, ◌++◌, length, get_or, Option, Some, None, sym, ◌∙◌, ap, subst, arith, length-append}
 use Rattle.std.specs.List.{flat_map}
 use Rattle.jesd_base.specs.Bits.{bits}
-use Rattle.lane_scramble.specs.Scramblers.{HasScrambled15}
+use Rattle.lane_scramble.specs.kept.Scramblers.{HasScrambled15}
 use Rattle.std.proofs.Math.Nat.{mod-lt}
 use Rattle.std.proofs.Math.Seq.{get_or-append_seam}
 use Rattle.std.proofs.lemmas.Option.{get_or_from_slice_get}
@@ -11,9 +11,9 @@ use Rattle.link_params.specs.Numbers.{period}
 use Rattle.code_8b10b.specs.declared.character.Char.{Char}
 use Rattle.code_8b10b.specs.declared.character.Char.TheVariants.{Data}
 use Rattle.char_replace.specs.Replacement.{char_due}
-use Rattle.char_replace.specs.Kept.{Sender as Replacer, HasReplaced}
+use Rattle.char_replace.specs.kept.Ends.{Sender as Replacer, HasReplaced}
 use Rattle.lane_b.specs.Sent.{coded_octets}
-use Rattle.lane_b.specs.Senders.{Carries, FollowsData, GoesOn, MayGoOn, Sender, HasPlace, HasSpellings, IsPlaced}
+use Rattle.lane_b.specs.kept.Senders.{Carries, FollowsData, GoesOn, MayGoOn, Sender, HasPlace, HasSpellings, IsPlaced}
 use Rattle.lane_b.proofs.CodedOctets.{place-more}
 use Rattle.lane_b.proofs.Spelled.{due-spelled}
 

@@ -21,12 +21,12 @@ use Rattle.code_8b10b.specs.declared.character.Char.{Char}
 use Rattle.code_8b10b.specs.declared.character.Char.TheVariants.{Data, Control}
 use Rattle.code_8b10b.specs.Code.{Chained, after, spelling}
 use Rattle.code_8b10b.proofs.Windows.{length-bits}
-use Rattle.char_replace.specs.Kept.{IsSerial}
+use Rattle.char_replace.specs.kept.Ends.{IsSerial}
 use Rattle.char_replace.specs.Replacement.{alignment_a}
 use Rattle.lane_scramble.specs.Scrambling.{scrambled15}
 use Rattle.ilas.specs.Sequence.{ilas_char}
-use Rattle.lane_b.specs.LaneLaws.{AreOctets, SpellsOneChain, TenBitsATick, WordsStay}
-use Rattle.lane_b.specs.Senders.{HasSpellings, rd_after}
+use Rattle.lane_b.specs.laws.LaneLaws.{AreOctets, SpellsOneChain, TenBitsATick, WordsStay}
+use Rattle.lane_b.specs.kept.Senders.{HasSpellings, rd_after}
 use Rattle.lane_b.specs.Sent.{char_of, chars_after, coded_octets, data_char, data_octets, going_on, is_first_data, octets_of, replaced, sent_words, spelled}
 use Rattle.lane_b.proofs.SentWords.{data_octets-more}
 use Rattle.lane_b.proofs.Spelled.{begin-spelled, comma-spelled, configuration-spelled, data-spelled, due-spelled, end-spelled, one_of_five}

@@ -6,7 +6,7 @@ use Rattle.link_params.specs.Lanes.{Taken}
 use Rattle.code_8b10b.specs.Commas.{begins_lock, least_place, stands_at}
 use Rattle.code_8b10b.proofs.Places.{finds_least_place, finds_no_place}
 use Rattle.lane_b.specs.Locking.{Lock, bits_taken, bits_to_start, is_dropped, is_empty, lock, lock_at, lock_from, order_at, since_start, tick_of_start}
-use Rattle.lane_b.specs.LaneLaws.{IsHeldAfter, IsHeldFrom, IsLeastFrom, OneLock}
+use Rattle.lane_b.specs.laws.LaneLaws.{IsHeldAfter, IsHeldFrom, IsLeastFrom, OneLock}
 use Rattle.lane_b.proofs.PlaceLemmas.{least_place-from, zero_place}
 use Rattle.lane_b.proofs.SearchLemmas.{bits_to_start-inside, length-bits_taken, lock_from-dropped, lock_from-held, lock_from-none}
 use Rattle.lane_b.proofs.LaneEntries.{cases-found, none-zero, not-is, place-inside}

@@ -9,7 +9,7 @@ use Rattle.code_8b10b.specs.declared.character.Char.TheVariants.{Data, Control}
 use Rattle.code_8b10b.specs.declared.character.Reading.{Reading}
 use Rattle.code_8b10b.specs.declared.character.Reading.TheVariants.{Char as Read, Disparity, Invalid}
 use Rattle.char_replace.specs.declared.restored.Restored.{Restored}
-use Rattle.char_replace.specs.Replacement.{ends_frame, ends_multiframe}
+use Rattle.char_replace.specs.Replacement.{ends_frame_only, ends_multiframe}
 use Rattle.char_replace.specs.Restoring.{IsRestored, given_at, is_accepted, is_bad_char, is_repeat, nothing}
 use Rattle.lane_b.specs.Received.{restored}
 
@@ -33,7 +33,7 @@ accepts-none p o some = elim (cases_Bool p.scr) [
   | inl scr ↦ rw scr refl
   | inr plain ↦
       let early = lt-leb p.f 0 (omega arith) in
-      rw (plain, early) (and_right (((o == 0x7C) && ends_multiframe p 0) || ((o == 0xFC) && ends_frame p 0)) false refl)
+      rw (plain, early) (and_right (((o == 0x7C) && ends_multiframe p 0) || ((o == 0xFC) && ends_frame_only p 0)) false refl)
 ]
 
 pub repeats-none : (p : Params) (r : Reading) → 1 ≤ p.f → is_repeat p 0 r ≡ false

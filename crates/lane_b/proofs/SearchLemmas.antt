@@ -10,8 +10,8 @@ use Rattle.code_8b10b.specs.declared.character.Reading.{Reading}
 use Rattle.code_8b10b.specs.Reads.{readings}
 use Rattle.code_8b10b.specs.Commas.{least_place}
 use Rattle.lane_b.specs.Locking.{bits_taken, words_in, from_other, is_empty, lock_at, since_start, bits_to_start, tick_of_start, order_at, no_order, is_dropped, lock_from, lock}
-use Rattle.lane_b.specs.Senders.{rd_after}
-use Rattle.lane_b.specs.Receivers.{AreTens, Searches}
+use Rattle.lane_b.specs.kept.Senders.{rd_after}
+use Rattle.lane_b.specs.kept.Receivers.{AreTens, Searches}
 use Rattle.lane_b.proofs.ChainLemmas.{later_tens, words_in-append, length-tens, readings-append, length-readings, from_other-append_some, length-from_other, is_empty-length, is_empty-append}
 use Rattle.lane_b.proofs.PlaceLemmas.{zero_place, least_place-append_from}
 

@@ -10,7 +10,7 @@ use Rattle.code_8b10b.specs.declared.character.Char.{Char}
 use Rattle.code_8b10b.specs.declared.character.Char.TheVariants.{Control}
 use Rattle.code_8b10b.specs.Code.{after, spelling}
 use Rattle.lane_b.specs.Sent.{char_of, chars_after, data_char, data_octets, going_on, spelled, sent_words}
-use Rattle.lane_b.specs.Senders.{MayGoOn, Sender, next_place, rd_after}
+use Rattle.lane_b.specs.kept.Senders.{MayGoOn, Sender, place_after_order, rd_after}
 
 pub data_octets-more : (hs : List Handed) (h : Handed) (octets : List ℕ) → data_octets octets (hs ++ h ∷ []) ≡ going_on (data_octets octets hs) h
 unfolding data_octets
@@ -76,7 +76,7 @@ other-char p lane handed (DataOrder x first) ilas data_at = absurd (data_at x fi
 other-char p lane handed Silent ilas data_at = refl
 other-char p lane handed (Block x first) ilas data_at = refl
 
-pub other-next : (p : Params) (order : TxOrder) → ((x : ℕ) → order ≡ Ilas x → ⊥) → ((x : ℕ) (first : Bool) → order ≡ DataOrder x first → ⊥) → None ≡ next_place p order
+pub other-next : (p : Params) (order : TxOrder) → ((x : ℕ) → order ≡ Ilas x → ⊥) → ((x : ℕ) (first : Bool) → order ≡ DataOrder x first → ⊥) → None ≡ place_after_order p order
 other-next p Comma ilas data_at = refl
 other-next p (Ilas x) ilas data_at = absurd (ilas x refl)
 other-next p (DataOrder x first) ilas data_at = absurd (data_at x first refl)

@@ -9,8 +9,8 @@ use Rattle.code_8b10b.specs.Code.{after, spelling, controls}
 use Rattle.link_params.specs.Numbers.{period}
 use Rattle.link_params.specs.Config.{config_octets}
 use Rattle.ilas.specs.Sequence.{ilas_char}
-use Rattle.char_replace.specs.Replacement.{char_due, alignment_a, alignment_f, ends_multiframe, ends_frame, is_alike, is_after_data}
-use Rattle.lane_b.specs.Senders.{HasSpellings}
+use Rattle.char_replace.specs.Replacement.{char_due, alignment_a, alignment_f, ends_multiframe, ends_frame_only, is_alike, is_after_data}
+use Rattle.lane_b.specs.kept.Senders.{HasSpellings}
 
 pub data-spelled : (o : ℕ) → o < 256 → HasSpellings (Data o)
 unfolding spelling
@@ -47,8 +47,8 @@ pub due-spelled : (p : Params) (octets : List ℕ) (chars : List Char) (x : ℕ)
 due-spelled p octets chars x lt =
     let o : ℕ = get_or octets x 0 in
     elim (cases_Bool p.scr) [
-      | inl scr ↦ rw scr (one_of_three (ends_multiframe p x && (o == 0x7C)) (ends_frame p x && (o == 0xFC)) alignment_a alignment_f (Data o) end-spelled frame_end-spelled (data-spelled o lt))
-      | inr plain ↦ rw plain (one_of_three (ends_multiframe p x && is_alike p octets x) (ends_frame p x && is_alike p octets x && is_after_data p chars x) alignment_a alignment_f (Data o) end-spelled frame_end-spelled (data-spelled o lt))
+      | inl scr ↦ rw scr (one_of_three (ends_multiframe p x && (o == 0x7C)) (ends_frame_only p x && (o == 0xFC)) alignment_a alignment_f (Data o) end-spelled frame_end-spelled (data-spelled o lt))
+      | inr plain ↦ rw plain (one_of_three (ends_multiframe p x && is_alike p octets x) (ends_frame_only p x && is_alike p octets x && is_after_data p chars x) alignment_a alignment_f (Data o) end-spelled frame_end-spelled (data-spelled o lt))
     ]
 
 -- the word and the disparity that the code gives

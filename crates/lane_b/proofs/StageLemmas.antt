@@ -23,14 +23,14 @@ use Rattle.lane_b.specs.declared.receiver.Chain.{Chain}
 use Rattle.lane_b.specs.declared.receiver.Start.{Start}
 use Rattle.lane_b.specs.declared.receiver.Step.{Step}
 use Rattle.lane_b.specs.declared.receiver.Step.TheVariants.{Stay, Keep, Drop}
-use Rattle.lane_b.specs.Across.{ten_across}
+use Rattle.lane_b.specs.kept.Across.{ten_across}
 use Rattle.lane_b.specs.Locking.{Lock, bits_taken, words_in, is_comma, from_other, is_empty, lock_at, since_start, bits_to_start, tick_of_start, order_at, no_order, is_dropped, lock, tens, start_of}
 use Rattle.lane_b.specs.Loss.{is_lost, faults_from, alignments_from, some_rest}
 use Rattle.lane_b.specs.Received.{report_b, report_of, entries_b, entries_of, entries_since, is_started_inside}
-use Rattle.lane_b.specs.Senders.{rd_after}
-use Rattle.lane_b.specs.Starts.{HasRead}
-use Rattle.lane_b.specs.Receivers.{AreTens, HuntsOn, ReadsOn, IsStarted, MayBeStarted, IsLocked}
-use Rattle.lane_b.specs.Ticks.{StepOf, Reads, Does}
+use Rattle.lane_b.specs.kept.Senders.{rd_after}
+use Rattle.lane_b.specs.kept.Starts.{HasRead}
+use Rattle.lane_b.specs.kept.Receivers.{AreTens, HuntsOn, ReadsOn, IsStarted, MayBeStarted, IsLocked}
+use Rattle.lane_b.specs.kept.Ticks.{StepOf, Reads, Does}
 use Rattle.lane_b.proofs.ChainLemmas.{later_tens, later_tens-ten, words_in-append, rd_after-append, from_other-append_none, from_other-append_some, is_empty-append}
 use Rattle.lane_b.proofs.PlaceLemmas.{no_place, found_now, least_place-from}
 use Rattle.lane_b.proofs.SearchLemmas.{bits_taken-append, length-bits_taken, are_tens-more, later_readings, read-append, length-read, place-lock_at, order_of_start-more, searches-more, least-more, searches-drop, lock-none, lock-some}

@@ -11,12 +11,12 @@ use Rattle.lane_b.specs.declared.chars.Chars.{Chars}
 use Rattle.lane_b.specs.declared.receiver.Chain.{Chain}
 use Rattle.lane_b.specs.declared.receiver.Step.{Step}
 use Rattle.lane_b.specs.declared.receiver.Step.TheVariants.{Stay, Keep, Drop}
-use Rattle.lane_b.specs.Gives.{given, ComesInOrder, Holds}
+use Rattle.lane_b.specs.kept.Gives.{given, ComesInOrder, Holds}
 use Rattle.lane_b.specs.declared.receiver.State.TheVariants.{Hunting, Locked}
 use Rattle.lane_b.specs.Locking.{lock, lock_from, bits_taken}
 use Rattle.lane_b.specs.Received.{entries_b}
-use Rattle.lane_b.specs.Receivers.{Receiver, AreTens, HuntsOn, IsLocked, HasTaken}
-use Rattle.lane_b.specs.Ticks.{Does, Keeps}
+use Rattle.lane_b.specs.kept.Receivers.{Receiver, AreTens, HuntsOn, IsLocked, HasTaken}
+use Rattle.lane_b.specs.kept.Ticks.{Does, Keeps}
 use Rattle.lane_b.proofs.SearchLemmas.{searches-start, are_tens-more}
 use Rattle.lane_b.proofs.StageLemmas.{hunts-more, locks-now, entries-hunts, entries-not_started}
 

@@ -7,7 +7,7 @@ use Rattle.code_8b10b.specs.declared.character.Rd.TheVariants.{Minus}
 use Rattle.code_8b10b.specs.declared.character.Char.{Char}
 use Rattle.code_8b10b.specs.Code.{after, spelling}
 use Rattle.lane_b.specs.Sent.{char_of, data_octets, sent_words}
-use Rattle.lane_b.specs.Senders.{HasSent, IsSameLink, MayGoOn, Sender, rd_after}
+use Rattle.lane_b.specs.kept.Senders.{HasSent, IsSameLink, MayGoOn, Sender, rd_after}
 use Rattle.lane_b.proofs.NextOctet.{goes_on-same}
 use Rattle.lane_b.proofs.SentWords.{rd_after-more, sent_words-more}
 use Rattle.lane_b.proofs.Spelled.{encoded, words}

@@ -14,7 +14,7 @@ use Rattle.code_8b10b.specs.declared.character.Reading.TheVariants.{Invalid}
 use Rattle.char_replace.specs.declared.restored.Restored.{Restored}
 use Rattle.char_replace.specs.Replacement.{IsReplaced, char_due}
 use Rattle.char_replace.specs.Restoring.{IsRestored, given_at, nothing}
-use Rattle.lane_b.specs.LaneLaws.{Replaces, Restores, SendsLast}
+use Rattle.lane_b.specs.laws.LaneLaws.{Replaces, Restores, SendsLast}
 use Rattle.lane_b.specs.Received.{restored}
 use Rattle.lane_b.specs.Sent.{coded_octets, data_char, replaced}
 use Rattle.lane_b.proofs.CodedOctets.{and_false, length-coded, length-replaced}

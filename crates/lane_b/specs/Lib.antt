@@ -2,12 +2,5 @@ pub mod Sent
 pub mod Locking
 pub mod Loss
 pub mod Received
-pub mod Senders
-pub mod Gives
-pub mod Across
-pub mod Receivers
-pub mod Ticks
-pub mod Counts
-pub mod Cells
-pub mod Starts
-pub mod LaneLaws
+pub mod kept
+pub mod laws

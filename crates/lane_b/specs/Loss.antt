@@ -10,7 +10,7 @@ use Rattle.code_8b10b.specs.declared.character.Char.TheVariants.{Data, Control}
 use Rattle.code_8b10b.specs.declared.character.Reading.{Reading}
 use Rattle.code_8b10b.specs.declared.character.Reading.TheVariants.{Char as Read, Disparity, Invalid}
 use Rattle.code_8b10b.specs.Commas.{begins}
-use Rattle.char_replace.specs.Replacement.{ends_frame, ends_multiframe}
+use Rattle.char_replace.specs.Replacement.{ends_frame_only, ends_multiframe}
 use Rattle.char_replace.specs.Restoring.{is_accepted, is_bad_char}
 use Rattle.ilas.specs.Checked.{is_allowed}
 use Rattle.ilas.specs.Sequence.{ilas_char}
@@ -49,7 +49,7 @@ is_alignment (Control o) = (o == 0x7C) || (o == 0xFC)
 -- a character is the alignment character of its place: /A/ where a multiframe ends, /F/ where another frame does
 abbrev pub stands_in_ilas : Params → ℕ → Char → Bool
 stands_in_ilas p x (Data o) = false
-stands_in_ilas p x (Control o) = ((o == 0x7C) && ends_multiframe p x) || ((o == 0xFC) && ends_frame p x)
+stands_in_ilas p x (Control o) = ((o == 0x7C) && ends_multiframe p x) || ((o == 0xFC) && ends_frame_only p x)
 
 -- it is accepted: in the alignment sequence as in data
 abbrev pub is_accepted_since : Params → ℕ → Char → Bool

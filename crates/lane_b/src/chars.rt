@@ -3,7 +3,7 @@ ghost use Rattle.std.specs.Prelude.{◌≡◌, ◌<◌};
 ghost use Rattle.jesd_base.specs.Bits.{bits as bits_of, value};
 ghost use Rattle.code_8b10b.specs.Code.{after};
 ghost use Rattle.code_8b10b.specs.Reads.{reading};
-ghost use Rattle.lane_b.specs.Across.{ten_across};
+ghost use Rattle.lane_b.specs.kept.Across.{ten_across};
 
 use code_8b10b::{Lock, Rd, Reading, code_laws, decode};
 use jesd_base::bits_and_numbers;

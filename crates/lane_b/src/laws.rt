@@ -1,5 +1,5 @@
 //! Laws of what a lane sends, reports and puts into its buffer.
-ghost use Rattle.lane_b.specs.LaneLaws.{DoneLasts, FaultLasts, FirstEntry, LossLasts, NoneOutside, NoneUnstarted, OneEntryATick, OneLock, PlacesThenData, Replaces, Restores, SendsLast, SpellsOneChain, StartLasts, TenBitsATick, WordsStay};
+ghost use Rattle.lane_b.specs.laws.LaneLaws.{DoneLasts, FaultLasts, FirstEntry, LossLasts, NoneOutside, NoneUnstarted, OneEntryATick, OneLock, PlacesThenData, Replaces, Restores, SendsLast, SpellsOneChain, StartLasts, TenBitsATick, WordsStay};
 
 /// The entries of a receiver lane: one more with each tick since a start inside the window, none
 /// without one, and first those of the alignment sequence (JESD204B.01 clause 5.3.3.5).

@@ -1,7 +1,7 @@
 //! Whether a receiver lane is lost.
 ghost use Rattle.std.specs.Prelude.{◌≡◌, ◌≤◌, ◌++◌, ◌∷◌, ◌||◌, [], Bool, List, min, nat_le, count_ones};
 ghost use Rattle.lane_b.specs.Loss.{has_four_faults, has_four_misplaced, with_option};
-ghost use Rattle.lane_b.specs.Counts.{HasCounted, misplaced_after};
+ghost use Rattle.lane_b.specs.kept.Counts.{HasCounted, misplaced_after};
 
 use std::marker::Model;
 
@@ -17,7 +17,7 @@ pub struct Loss {
 
 impl Model for Loss {
     ghost use Rattle.std.specs.Prelude.{◌≤◌};
-    ghost use Rattle.lane_b.specs.Counts.{Counter};
+    ghost use Rattle.lane_b.specs.kept.Counts.{Counter};
 
     ghost Value = { Counter };
 
@@ -59,7 +59,7 @@ impl Loss {
 }
 
 // The misplaced characters since the last accepted one, four where there are more.
-#[tactic(auto, unfolding(crate::specs::Counts::misplaced_after))]
+#[tactic(auto, unfolding(crate::specs::kept::Counts::misplaced_after))]
 fn misplaced_next(misplaced: u8, alignment: Option<bool>) -> u8
     requires { misplaced ≤ 4 }
     ensures value { result ≡ min 4 (misplaced_after misplaced (with_option alignment [])) }

@@ -6,7 +6,7 @@ ghost use Rattle.link_params.specs.Numbers.{period};
 ghost use Rattle.code_8b10b.specs.declared.character.Reading.{Reading as ReadingValue};
 ghost use Rattle.char_replace.specs.Restoring.{is_bad_char};
 ghost use Rattle.lane_b.specs.Received.{data_cells, marked};
-ghost use Rattle.lane_b.specs.Cells.{HasGiven};
+ghost use Rattle.lane_b.specs.kept.Cells.{HasReadData};
 
 use char_replace::Restore;
 use code_8b10b::Reading;
@@ -27,7 +27,7 @@ pub struct Octets {
 }
 
 impl Model for Octets {
-    ghost use Rattle.lane_b.specs.Cells.{Giver};
+    ghost use Rattle.lane_b.specs.kept.Cells.{Giver};
 
     ghost Value = { Giver };
 
@@ -47,7 +47,7 @@ impl Octets {
     /// A lane whose data begins.
     pub fn new(shape: &Shape) -> Octets
         requires { shape.now.mode ≡ B }
-        ensures { HasGiven result shape.now [] }
+        ensures { HasReadData result shape.now [] }
     {
         Octets {
             shape: *shape,
@@ -60,12 +60,12 @@ impl Octets {
 
     /// What the next reading gives, which stands at this place of its multiframe, counted from 0.
     pub fn push(&mut self, place: u32, reading: Reading) -> Given
-        ensures cell { (p : ParamsValue) (read : List ReadingValue) → HasGiven self.old p read → place ≡ length read % period p
+        ensures cell { (p : ParamsValue) (read : List ReadingValue) → HasReadData self.old p read → place ≡ length read % period p
             → data_cells p (read ++ reading ∷ []) ≡ data_cells p read ++ result.cell ∷ [] }
-        ensures fault { (p : ParamsValue) (read : List ReadingValue) → HasGiven self.old p read → place ≡ length read % period p
+        ensures fault { (p : ParamsValue) (read : List ReadingValue) → HasReadData self.old p read → place ≡ length read % period p
             → result.fault ≡ is_bad_char p (length read) reading }
-        ensures goes_on { (p : ParamsValue) (read : List ReadingValue) → HasGiven self.old p read → place ≡ length read % period p
-            → HasGiven self.new p (read ++ reading ∷ []) }
+        ensures goes_on { (p : ParamsValue) (read : List ReadingValue) → HasReadData self.old p read → place ≡ length read % period p
+            → HasReadData self.new p (read ++ reading ∷ []) }
     {
         let restored = self.restore.push(place, reading);
         let octet = self.scrambler.descramble(restored.octet);

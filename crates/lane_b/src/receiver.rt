@@ -6,13 +6,13 @@ ghost use Rattle.link_params.specs.declared.fields.Timing.{Timing as TimingValue
 ghost use Rattle.link_params.specs.declared.fields.Mode.TheVariants.{B};
 ghost use Rattle.link_params.specs.Lanes.{Taken, Entry, Placed, is_inside};
 ghost use Rattle.link_params.specs.Numbers.{depth};
-ghost use Rattle.lane_b.specs.Gives.{given, ComesInOrder, Holds};
+ghost use Rattle.lane_b.specs.kept.Gives.{given, ComesInOrder, Holds};
 ghost use Rattle.lane_b.specs.Received.{report_b, entries_b};
 ghost use Rattle.lane_b.specs.Locking.{is_comma};
 ghost use Rattle.code_8b10b.specs.declared.character.Reading.{Reading as ReadingValue};
-ghost use Rattle.lane_b.specs.Starts.{HasRead};
-ghost use Rattle.lane_b.specs.Receivers.{AreTens, IsLocked, HasTaken};
-ghost use Rattle.lane_b.specs.Ticks.{Does, Reads, Keeps};
+ghost use Rattle.lane_b.specs.kept.Starts.{HasRead};
+ghost use Rattle.lane_b.specs.kept.Receivers.{AreTens, IsLocked, HasTaken};
+ghost use Rattle.lane_b.specs.kept.Ticks.{Does, Reads, Keeps};
 
 use crate::chars::Chars;
 use crate::started::Started;
@@ -66,7 +66,7 @@ enum Step {
 impl Model for RxLaneB {
     ghost use Rattle.std.specs.Prelude.{◌≡◌, ◌<◌, ◌≤◌, ◌^◌, length};
     ghost use Rattle.link_params.specs.declared.fields.Mode.TheVariants.{B};
-    ghost use Rattle.lane_b.specs.Receivers.{Receiver};
+    ghost use Rattle.lane_b.specs.kept.Receivers.{Receiver};
 
     ghost Value = { Receiver };
 

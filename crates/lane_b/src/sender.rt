@@ -5,7 +5,7 @@ ghost use Rattle.link_params.specs.declared.fields.Mode.TheVariants.{B};
 ghost use Rattle.link_params.specs.Lanes.{Handed};
 ghost use Rattle.link_params.specs.Numbers.{period};
 ghost use Rattle.lane_b.specs.Sent.{char_of, coded_octets, data_char, data_octets, sent_words};
-ghost use Rattle.lane_b.specs.Senders.{Follows, FollowsData, GoesOn, HasSent, HasSpellings, IsSameLink, MayGoOn, ScramblesSo, next_place};
+ghost use Rattle.lane_b.specs.kept.Senders.{Follows, FollowsData, GoesOn, HasSent, HasSpellings, IsSameLink, MayGoOn, ScramblesSo, place_after_order};
 
 use char_replace::Replace;
 use code_8b10b::{Char, K28_5, Rd, encode};
@@ -28,7 +28,7 @@ pub struct TxLaneB {
 impl Model for TxLaneB {
     ghost use Rattle.std.specs.Prelude.{◌≡◌, ◌<◌};
     ghost use Rattle.link_params.specs.declared.fields.Mode.TheVariants.{B};
-    ghost use Rattle.lane_b.specs.Senders.{Sender, HasPlace};
+    ghost use Rattle.lane_b.specs.kept.Senders.{Sender, HasPlace};
 
     ghost Value = { Sender };
 
@@ -74,7 +74,7 @@ impl TxLaneB {
         ensures below { result < 1024 }
         ensures sent { (p : ParamsValue) (lane : ℕ) (handed : List Handed) → HasSent self.old p lane handed
             → HasSent self.new p lane (handed ++ (record { order = order; octets = octet }) ∷ []) }
-        ensures next { self.new.next ≡ next_place self.old.params order }
+        ensures next { self.new.next ≡ place_after_order self.old.params order }
         ensures same { self.new.params ≡ self.old.params }
     {
         let c = self.character(order, octet);
@@ -95,7 +95,7 @@ impl TxLaneB {
         ensures goes_on { (p : ParamsValue) (lane : ℕ) (handed : List Handed) → HasSent self.old p lane handed
             → MayGoOn self.new p (data_octets [] (handed ++ (record { order = order; octets = octet }) ∷ [])) self.new.next }
         ensures spelled { HasSpellings result }
-        ensures next { self.new.next ≡ next_place self.old.params order }
+        ensures next { self.new.next ≡ place_after_order self.old.params order }
         ensures same { IsSameLink self.old self.new }
     {
         match order {

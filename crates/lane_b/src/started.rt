@@ -5,7 +5,7 @@ ghost use Rattle.link_params.specs.declared.fields.Mode.TheVariants.{B};
 ghost use Rattle.code_8b10b.specs.declared.character.Reading.{Reading as ReadingValue};
 ghost use Rattle.ilas.specs.Checked.{ilas_state};
 ghost use Rattle.lane_b.specs.Loss.{is_lost};
-ghost use Rattle.lane_b.specs.Starts.{GivesEntry, HasRead, next_place};
+ghost use Rattle.lane_b.specs.kept.Starts.{GivesEntry, HasRead, next_kept_place};
 
 use crate::alignment::{alignment_at, is_wrong_in_ilas};
 use crate::loss::Loss;
@@ -32,7 +32,7 @@ impl Model for Started {
     ghost use Rattle.std.specs.Prelude.{◌≡◌, ◌<◌, ◌*◌};
     ghost use Rattle.link_params.specs.declared.fields.Mode.TheVariants.{B};
     ghost use Rattle.link_params.specs.Numbers.{period};
-    ghost use Rattle.lane_b.specs.Starts.{Reader};
+    ghost use Rattle.lane_b.specs.kept.Starts.{Reader};
 
     ghost Value = { Reader };
 
@@ -100,7 +100,7 @@ impl Started {
 fn next_place(period: u32, place: u32) -> u32
     requires period { period ≤ 1024 }
     requires place { place < 6 * period }
-    ensures value { result ≡ next_place period place }
+    ensures value { result ≡ next_kept_place period place }
     ensures within { result < 6 * period }
 {
     if place + 1 == 6 * period {

@@ -16,7 +16,7 @@ use Rattle.jesd_base.proofs.BitLemmas.{bits-high, bits_of_both, bits_of_parts, p
 use Rattle.jesd_base.proofs.DivisionLemmas.{bit-lt}
 use Rattle.multiblock.specs.Places.{pattern_size}
 use Rattle.lane_c.specs.Loss.{count_last, loses}
-use Rattle.lane_c.specs.Counts.{Counter, HasCounted, last_of, was_lost, with_end, with_ended}
+use Rattle.lane_c.specs.kept.Counts.{Counter, HasCounted, last_of, was_lost, with_end, with_ended}
 
 -- ---- the history as a number
 

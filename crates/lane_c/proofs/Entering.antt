@@ -14,7 +14,7 @@ use Rattle.lane_c.specs.declared.receiver.Step.TheVariants as step
 use Rattle.lane_c.specs.Locking.{bits_taken, is_first, leaves, offset_of, order_at, place, start, starts}
 use Rattle.lane_c.specs.Received.{cells, cells_left, entries_c, entries_from, entries_of}
 use Rattle.lane_c.specs.Statuses.{known_blocks}
-use Rattle.lane_c.specs.Receivers.{AreBlocks, Does, HasStarted, IsArmedOn, IsHeld, MayHaveStarted, cell_now, is_inside_now, start_at}
+use Rattle.lane_c.specs.kept.Receivers.{AreBlocks, Does, HasStarted, IsArmedOn, IsHeld, MayHaveStarted, cell_now, is_inside_now, start_at}
 use Rattle.lane_c.proofs.CellsLeft.{cells_left-more}
 use Rattle.lane_c.proofs.Dropping.{last-order}
 use Rattle.lane_c.proofs.Leaves.{leaves-now, locked-now}

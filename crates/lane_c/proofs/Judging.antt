@@ -26,7 +26,7 @@ use Rattle.lane_c.specs.declared.pipeline.Judged.{Judged as JudgedBlocks}
 use Rattle.lane_c.specs.declared.pipeline.Multiblock.{Multiblock}
 use Rattle.lane_c.specs.Loss.{all_carry, carries, is_bad, is_misplaced}
 use Rattle.lane_c.specs.Statuses.{Checked, Judged, checked, checked_by, judged, judged_as, received_check, status_of}
-use Rattle.lane_c.specs.Receivers.{AreJudged, HasCome, check_size, is_one, status_at}
+use Rattle.lane_c.specs.kept.Receivers.{AreJudged, HasCome, check_size, is_one, status_at}
 
 -- ---- which carriers are bad
 

@@ -9,7 +9,7 @@ use Rattle.multiblock.specs.Places.{least_place, next_place}
 use Rattle.multiblock.proofs.PlaceLemmas.{place_stays}
 use Rattle.lane_c.specs.declared.receiver.Held.{Held}
 use Rattle.lane_c.specs.Locking.{bits_taken, dropped_at, order_at, place, start}
-use Rattle.lane_c.specs.Receivers.{AreBlocks, HasRead, IsHeld, MayHaveStarted}
+use Rattle.lane_c.specs.kept.Receivers.{AreBlocks, HasRead, IsHeld, MayHaveStarted}
 use Rattle.lane_c.proofs.Reporting.{room-of}
 use Rattle.lane_c.proofs.Searching.{are_blocks-more, bits_taken-more, place-some, searches-more}
 use Rattle.lane_c.proofs.Staying.{stays-on}

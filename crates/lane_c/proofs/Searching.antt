@@ -11,10 +11,10 @@ use Rattle.link_params.specs.Lanes.{Entry, Held, Taken}
 use Rattle.multiblock.specs.declared.place.Place.{Place as Found}
 use Rattle.multiblock.specs.Places.{Place, found, least_place, next_place, pattern, span}
 use Rattle.multiblock.proofs.PlaceLemmas.{finds_least_place, finds_none, not-found}
-use Rattle.multiblock.specs.Hunts.{HasHunted, Kept}
+use Rattle.multiblock.specs.kept.Hunts.{HasHunted, Kept}
 use Rattle.lane_c.specs.Locking.{bits_taken, dropped_at, no_order, order_at, place, place_from}
 use Rattle.lane_c.specs.Received.{entries_c, entries_of, report_c, report_of}
-use Rattle.lane_c.specs.Receivers.{AreBlocks, HasTaken, Holds, HuntsOn, Receiver, Searches, StandsSo}
+use Rattle.lane_c.specs.kept.Receivers.{AreBlocks, HasTaken, Holds, HuntsOn, Receiver, Searches, StandsSo}
 
 -- ---- the bits of ticks
 

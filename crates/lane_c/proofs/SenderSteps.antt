@@ -18,14 +18,14 @@ use Rattle.link_params.specs.declared.orders.TxOrder.TheVariants.{Comma, Ilas, D
 use Rattle.link_params.proofs.LawFacts.{legal_sizes}
 use Rattle.link_params.specs.Numbers.{period}
 use Rattle.lane_scramble.specs.Scrambling.{scrambled}
-use Rattle.lane_scramble.specs.Scramblers.{HasScrambled58}
+use Rattle.lane_scramble.specs.kept.Scramblers.{HasScrambled58}
 use Rattle.block_66b.specs.Blocks.{block, packed}
 use Rattle.fire_fec.specs.Corrects.{payload_bits}
 use Rattle.fire_fec.proofs.Flipping.{payload-length}
 use Rattle.multiblock.specs.SyncWords.{sync_word}
 use Rattle.link_params.specs.Lanes.{Handed}
 use Rattle.lane_c.specs.Sent.{blocks_of, check, is_block, is_end, octets_sent, part_of, payload_of, sent_c, word_of}
-use Rattle.lane_c.specs.Senders.{Follows, FollowsBlock, GoesOn, HasSent, IsIn, IsReady, MayBeSilent, MayGoOn, Sender, next_place}
+use Rattle.lane_c.specs.kept.Senders.{Follows, FollowsBlock, GoesOn, HasSent, IsIn, IsReady, MayBeSilent, MayGoOn, Sender, place_after_order}
 use Rattle.lane_c.proofs.SentBlocks.{blocks_of-more, length-payload, octets-more, octets_sent-from, sent-block, sent-silent, word_of-stays}
 
 -- ---- bits
@@ -332,10 +332,10 @@ pub record IsSilent (now : Sender) (order : TxOrder) (o : ℕ) : Type 0 where
       ++ bits 66 0 ∷ []
   pub sent : (p : Params) (handed : List Handed) → HasSent now p handed
       → HasSent now p (handed ++ (record { order = order; octets = o }) ∷ [])
-  pub next : now.next ≡ next_place now.params order
+  pub next : now.next ≡ place_after_order now.params order
 
 silent-of : (now : Sender) (order : TxOrder) (o : ℕ) → is_block order ≡ false
-    → None ≡ next_place now.params order → MayBeSilent now.next → IsSilent now order o
+    → None ≡ place_after_order now.params order → MayBeSilent now.next → IsSilent now order o
 silent-of now order o silent none may = record {
   bits = λ p lane handed h. (sent-silent p lane handed (record { order = order; octets = o }) silent
       (silent-at now.next now p (octets_sent handed) may h.goes_on)).1;

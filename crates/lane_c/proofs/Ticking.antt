@@ -13,19 +13,19 @@ use Rattle.link_params.specs.Lanes.{Taken}
 use Rattle.link_params.specs.Numbers.{period}
 use Rattle.multiblock.specs.declared.place.Place.{Place as Found}
 use Rattle.multiblock.specs.Places.{Place, found, headers, pattern_size, pieces}
-use Rattle.multiblock.specs.Hunts.{HasHunted, Kept}
+use Rattle.multiblock.specs.kept.Hunts.{HasHunted, Kept}
 use Rattle.multiblock.proofs.PlaceLemmas.{found_in_tick}
-use Rattle.elastic_buffer.specs.Queues.{Queue}
+use Rattle.elastic_buffer.specs.kept.Queues.{Queue}
 use Rattle.lane_c.specs.declared.pipeline.Multiblock.{Multiblock}
 use Rattle.lane_c.specs.declared.receiver.Held.{Held}
 use Rattle.lane_c.specs.declared.receiver.Start.{Start}
 use Rattle.lane_c.specs.declared.receiver.State.{State}
 use Rattle.lane_c.specs.declared.receiver.State.TheVariants as state
-use Rattle.lane_c.specs.Counts.{Counter, HasCounted}
+use Rattle.lane_c.specs.kept.Counts.{Counter, HasCounted}
 use Rattle.lane_c.specs.Loss.{first_loss, headers_after, is_bad, loses, misplaced, misplaced_from, pattern_end}
 use Rattle.lane_c.specs.Locking.{arrives, bits_taken, dropped_at, is_first, is_locked, leaves, no_order, order_at, place, start, starts, was_armed_before}
 use Rattle.lane_c.specs.Received.{entries_c, entries_from, entries_of}
-use Rattle.lane_c.specs.Receivers.{AreBlocks, HasBegun, HasCome, HasDropped, HasTaken, Holds, HoldsFirst, Hunts, HuntsOn, IsHeld, MayHaveStarted, Receiver, StandsSo, blocks_in}
+use Rattle.lane_c.specs.kept.Receivers.{AreBlocks, HasBegun, HasCome, HasDropped, HasTaken, Holds, HoldsFirst, Hunts, HuntsOn, IsHeld, MayHaveStarted, Receiver, StandsSo, blocks_in}
 use Rattle.lane_c.proofs.SenderSteps.{period-c}
 use Rattle.lane_c.proofs.Searching.{are_blocks-more, bits_taken-more, entries-unplaced, found-from, holds-same, hunts-none, length-bits_taken, searches-more}
 use Rattle.lane_c.proofs.Reporting.{place-held}

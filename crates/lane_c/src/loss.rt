@@ -2,7 +2,7 @@
 ghost use Rattle.std.specs.Prelude.{◌≡◌, ◌≤◌, ◌++◌, ◌∷◌, [], Bool, List, IsSome, if◌then◌else◌};
 ghost use Rattle.std.specs.Prelude.{ℕ, suc, false, ◌+◌, ◌*◌, ◌%◌, ◌^◌, ◌==◌, ◌||◌, nat_le, count_ones, length, is_some};
 ghost use Rattle.jesd_base.specs.Bits.{bit};
-ghost use Rattle.lane_c.specs.Counts.{HasCounted, was_lost, with_end, with_ended};
+ghost use Rattle.lane_c.specs.kept.Counts.{HasCounted, was_lost, with_end, with_ended};
 
 use std::marker::Model;
 
@@ -20,7 +20,7 @@ pub(crate) struct Loss {
 
 impl Model for Loss {
     ghost use Rattle.std.specs.Prelude.{◌≤◌, ◌<◌, ◌^◌};
-    ghost use Rattle.lane_c.specs.Counts.{Counter};
+    ghost use Rattle.lane_c.specs.kept.Counts.{Counter};
 
     ghost Value = { Counter };
 

@@ -4,14 +4,14 @@ ghost use Rattle.jesd_base.specs.Bits.{bits, value};
 ghost use Rattle.link_params.specs.declared.fields.Mode.TheVariants.{B};
 ghost use Rattle.block_66b.specs.Blocks.{header};
 ghost use Rattle.fire_fec.specs.Corrects.{payload_bits};
-ghost use Rattle.lane_scramble.specs.Scramblers.{HasDescrambled58};
+ghost use Rattle.lane_scramble.specs.kept.Scramblers.{HasDescrambled58};
 ghost use Rattle.multiblock.specs.SyncWords.{is_check, sync_form};
 ghost use Rattle.lane_c.specs.Loss.{is_misplaced};
 ghost use Rattle.lane_c.specs.Received.{cell};
 ghost use Rattle.lane_c.specs.Statuses.{Checked, Judged as JudgedBlock, checked, judged};
 ghost use Rattle.link_params.specs.declared.fields.Params.{Params as ParamsValue};
 ghost use Rattle.multiblock.specs.Places.{Place as PlaceValue, pattern_size};
-ghost use Rattle.lane_c.specs.Receivers.{AreJudged, HasCome, HasLeft, HasMore, HasPiped, block_of, blocks_in, cell_now, check_size};
+ghost use Rattle.lane_c.specs.kept.Receivers.{AreJudged, HasCome, HasLeft, HasMore, HasPiped, block_of, blocks_in, cell_now, check_size};
 
 use crate::sender::{crc, sync_bit};
 use block_66b::SyncBit;

@@ -9,7 +9,7 @@ ghost use Rattle.link_params.specs.Numbers.{depth};
 ghost use Rattle.lane_c.specs.Received.{entries_c, report_c, report_of};
 ghost use Rattle.lane_c.specs.declared.receiver.Start.{Start as StartValue};
 ghost use Rattle.lane_c.specs.declared.receiver.Step.TheVariants.{Keep, Stay};
-ghost use Rattle.lane_c.specs.Receivers.{AreBlocks, Does, EndsAt, HasBegun, HasRead, HasTaken, HoldsFirst, Hunts, IsArmedOn, IsHeld, cell_now, is_inside_now, start_at, tick_of};
+ghost use Rattle.lane_c.specs.kept.Receivers.{AreBlocks, Does, EndsAt, HasBegun, HasRead, HasTaken, HoldsFirst, Hunts, IsArmedOn, IsHeld, cell_now, is_inside_now, start_at, tick_of};
 ghost use Rattle.lane_c.specs.Loss.{is_bad};
 ghost use Rattle.lane_c.specs.Locking.{bits_taken};
 
@@ -73,7 +73,7 @@ enum Step {
 impl Model for RxLaneC {
     ghost use Rattle.std.specs.Prelude.{◌≡◌, ◌≢◌, ◌<◌, ◌^◌};
     ghost use Rattle.link_params.specs.declared.fields.Mode.TheVariants.{B};
-    ghost use Rattle.lane_c.specs.Receivers.{Receiver};
+    ghost use Rattle.lane_c.specs.kept.Receivers.{Receiver};
 
     ghost Value = { Receiver };
 

@@ -7,7 +7,7 @@ ghost use Rattle.link_params.specs.Lanes.{Handed};
 ghost use Rattle.link_params.specs.Numbers.{period as period_of};
 ghost use Rattle.fire_fec.specs.Corrects.{payload_bits};
 ghost use Rattle.lane_c.specs.Sent.{blocks_of, check, sent_c};
-ghost use Rattle.lane_c.specs.Senders.{Follows, FollowsBlock, GoesOn, HasPlace, HasSent, IsReady, MayGoOn, next_place};
+ghost use Rattle.lane_c.specs.kept.Senders.{Follows, FollowsBlock, GoesOn, HasPlace, HasSent, IsReady, MayGoOn, place_after_order};
 
 use block_66b::pack;
 use crc12::Crc12;
@@ -33,7 +33,7 @@ pub struct TxLaneC {
 impl Model for TxLaneC {
     ghost use Rattle.std.specs.Prelude.{◌≡◌, ◌≢◌, ◌<◌};
     ghost use Rattle.link_params.specs.declared.fields.Mode.TheVariants.{B};
-    ghost use Rattle.lane_c.specs.Senders.{Sender, HasPlace};
+    ghost use Rattle.lane_c.specs.kept.Senders.{Sender, HasPlace};
 
     ghost Value = { Sender };
 
@@ -87,7 +87,7 @@ impl TxLaneC {
         ensures below { result < 2 ^ 66 }
         ensures sent { (p : ParamsValue) (handed : List Handed) → HasSent self.old p handed
             → HasSent self.new p (handed ++ (record { order = order; octets = octets }) ∷ []) }
-        ensures next { self.new.next ≡ next_place self.old.params order }
+        ensures next { self.new.next ≡ place_after_order self.old.params order }
         ensures same { self.new.params ≡ self.old.params }
     {
         match order {

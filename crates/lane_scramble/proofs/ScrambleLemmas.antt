@@ -3,7 +3,7 @@ use Rattle.std.proofs.Common.{◌≡◌, ℕ, zero, suc, ◌-◌, ◌<◌, ◌�
 use Rattle.std.proofs.lemmas.List.{take-append-drop, take-take, reverse-append, length-reverse}
 use Rattle.jesd_base.specs.Bits.{add, ones, zeros}
 use Rattle.lane_scramble.specs.Scrambling.{back, scrambled, descrambled, start15, start58}
-use Rattle.lane_scramble.specs.ScrambleLaws.{DescrambledAgain, OnlyLastMatter, GoesInParts, ForgetsEarlier, KeepLength, PartBefore}
+use Rattle.lane_scramble.specs.laws.ScrambleLaws.{DescrambledAgain, OnlyLastMatter, GoesInParts, ForgetsEarlier, KeepLength, PartBefore}
 
 add-twice : (x y : Bool) → add (add x y) y ≡ x
 add-twice true true = refl

@@ -1,3 +1,3 @@
 pub mod Scrambling
-pub mod ScrambleLaws
-pub mod Scramblers
+pub mod kept
+pub mod laws

@@ -2,7 +2,7 @@
 ghost use Rattle.std.specs.Prelude.{◌≡◌, Bool, List, [], ◌++◌, reverse, take};
 ghost use Rattle.jesd_base.specs.Bits.{bits};
 ghost use Rattle.lane_scramble.specs.Scrambling.{scrambled, descrambled, scrambled15, descrambled15};
-ghost use Rattle.lane_scramble.specs.Scramblers.{HasScrambled15, HasDescrambled15};
+ghost use Rattle.lane_scramble.specs.kept.Scramblers.{HasScrambled15, HasDescrambled15};
 
 use std::marker::Model;
 

@@ -2,7 +2,7 @@
 ghost use Rattle.std.specs.Prelude.{◌≡◌, Bool, List, [], ◌++◌, reverse};
 ghost use Rattle.jesd_base.specs.Bits.{bits};
 ghost use Rattle.lane_scramble.specs.Scrambling.{scrambled, descrambled, scrambled58, descrambled58};
-ghost use Rattle.lane_scramble.specs.Scramblers.{HasScrambled58, HasDescrambled58};
+ghost use Rattle.lane_scramble.specs.kept.Scramblers.{HasScrambled58, HasDescrambled58};
 
 use std::marker::Model;
 

@@ -1,5 +1,5 @@
 //! Laws of scrambling.
-ghost use Rattle.lane_scramble.specs.ScrambleLaws.{DescrambledAgain, ForgetsEarlier, GoesInParts, KeepLength, OnlyLastMatter, PartBefore};
+ghost use Rattle.lane_scramble.specs.laws.ScrambleLaws.{DescrambledAgain, ForgetsEarlier, GoesInParts, KeepLength, OnlyLastMatter, PartBefore};
 
 /// What scrambling and descrambling have to do with each other and with the earlier bits, whatever
 /// the two taps are.

@@ -10,9 +10,9 @@ use Rattle.std.proofs.lemmas.List.Folds.{list_any_more}
 use Rattle.std.proofs.Math.Nat.{mod-eq_of_lt, mul-mod_left, mod-lt}
 use Rattle.std.proofs.Math.Pow.{mod-mod-pow}
 use Rattle.jesd_base.specs.Bits.{add, bits, value}
-use Rattle.jesd_base.specs.BitLaws.{BitsLength, ValueOfBits, BitsOfValue, ValueBelow, ValueOfAppend}
+use Rattle.jesd_base.specs.laws.BitLaws.{BitsLength, ValueOfBits, BitsOfValue, ValueBelow, ValueOfAppend}
 use Rattle.line_model.specs.LineBits.{Settings, numbers_from, is_flipped, line_bit, line_word}
-use Rattle.line_model.specs.Lines.{Kept, HasCarried, Ring, Counted, arrived}
+use Rattle.line_model.specs.kept.Lines.{Kept, HasCarried, Ring, Counted, arrived}
 
 -- ---- the ring
 

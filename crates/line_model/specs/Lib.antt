@@ -1,2 +1,2 @@
 pub mod LineBits
-pub mod Lines
+pub mod kept

@@ -4,7 +4,7 @@ ghost use Rattle.std.specs.Int.{bit_at};
 ghost use Rattle.std.specs.List.Sorted.{IsStrictlyIncreasing};
 ghost use Rattle.jesd_base.specs.Bits.{bits};
 ghost use Rattle.line_model.specs.LineBits.{Settings, is_flipped, line_word};
-ghost use Rattle.line_model.specs.Lines.{Kept, HasCarried, Ring, Counted, arrived};
+ghost use Rattle.line_model.specs.kept.Lines.{Kept, HasCarried, Ring, Counted, arrived};
 
 use jesd_base::{NoMemory, bits_and_numbers};
 use std::alloc::Global;
@@ -35,7 +35,7 @@ pub struct Line {
 impl Model for Line {
     ghost use Rattle.std.specs.Prelude.{◌≡◌, ◌≤◌, ◌<◌, ◌+◌, ◌*◌, ◌/◌, ◌^◌, ◌⊎◌, ℕ, get_or, vec_len};
     ghost use Rattle.std.specs.List.Sorted.{IsStrictlyIncreasing};
-    ghost use Rattle.line_model.specs.Lines.{Kept};
+    ghost use Rattle.line_model.specs.kept.Lines.{Kept};
 
     ghost Value = { Kept };
 

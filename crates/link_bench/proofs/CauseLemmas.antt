@@ -13,7 +13,7 @@ use Rattle.scenario.specs.Answer.{Answers}
 use Rattle.scenario.specs.Plans.{Plan, plan_of, plan_with}
 use Rattle.scenario.specs.Reads.{Seen, Refusal, bad_at, reads}
 use Rattle.link_bench.specs.Jobs.{IsText, alarms_in, alarms_of}
-use Rattle.link_bench.specs.Scenarios.{IsLines, alarms_for}
+use Rattle.link_bench.specs.kept.Scenarios.{IsLines, alarms_for}
 
 -- a scenario with a link has a plan
 pub plan-some : (s : Scenario) → IsTrue (is_some s.link) → (plan : Plan) × (plan_of s ≡ Some plan)

@@ -4,20 +4,20 @@ use Rattle.std.proofs.Math.Seq.{drop-drop}
 use Rattle.std.proofs.Math.Nat.{mul-le-mul_right}
 use Rattle.std.proofs.lemmas.List.{flat_map_more, drop_all, take_all, append-nil}
 use Rattle.std.specs.List.{flat_map}
-use Rattle.link_bench.specs.Lines.{pieces, Each}
+use Rattle.link_bench.specs.Lines.{pieces_of, Each}
 
 -- one piece more
-pub pieces-more : {A : Type 0} (n m : ℕ) (xs : List A) → pieces n (m + 1) xs ≡ pieces n m xs
+pub pieces-more : {A : Type 0} (n m : ℕ) (xs : List A) → pieces_of n (m + 1) xs ≡ pieces_of n m xs
     ++ take n (drop (m * n) xs) ∷ []
-unfolding pieces
+unfolding pieces_of
 pieces-more n zero xs = let e : 0 * n ≡ 0 = omega arith in ap (λ k. take n (drop k xs) ∷ []) (sym e)
 pieces-more {A} n (suc m) xs =
     let e : n + m * n ≡ suc m * n = omega arith in
     let d : drop (m * n) (drop n xs) ≡ drop (suc m * n) xs = drop-drop (m * n) n xs
     ∙ ap (λ k. drop k xs) e in
-    let more : pieces n (m + 1) (drop n xs) ≡ pieces n m (drop n xs) ++ take n (drop (suc m * n) xs)
+    let more : pieces_of n (m + 1) (drop n xs) ≡ pieces_of n m (drop n xs) ++ take n (drop (suc m * n) xs)
     ∷ [] =
-    pieces-more n m (drop n xs) ∙ ap (λ x. pieces n m (drop n xs) ++ take n x ∷ []) d in
+    pieces-more n m (drop n xs) ∙ ap (λ x. pieces_of n m (drop n xs) ++ take n x ∷ []) d in
     let k : suc m + 1 ≡ suc (m + 1) = omega arith in
     rw k (ap {B = List (List A)} (λ r. take n xs ∷ r) more)
 
@@ -32,15 +32,15 @@ Each-more R (a ∷ xs) [] x y e r = absurd e
 -- one frame more, and its line behind the text
 pub frames-more : {A : Type 0} (R : List A → List ℕ → Type 0) (line : List ℕ → List ℕ) (n m : ℕ)
     (xs : List A) (old new y : List ℕ)
-    → ((frames : List (List ℕ)) × Each R (pieces n m xs) frames × (old ≡ flat_map line frames))
+    → ((frames : List (List ℕ)) × Each R (pieces_of n m xs) frames × (old ≡ flat_map line frames))
     → R (take ((m + 1) * n - m * n) (drop (m * n) xs)) y → new ≡ old ++ line y
-    → (frames : List (List ℕ)) × Each R (pieces n (m + 1) xs) frames × (new ≡ flat_map line frames)
+    → (frames : List (List ℕ)) × Each R (pieces_of n (m + 1) xs) frames × (new ≡ flat_map line frames)
 frames-more R line n m xs old new y (frames, each, is) r added =
     let e : (m + 1) * n - m * n ≡ n = omega arith in
     let piece : R (take n (drop (m * n) xs)) y = rw e at r in (
       frames ++ y ∷ [],
       rw (pieces-more n m xs)
-          (Each-more R (pieces n m xs) frames (take n (drop (m * n) xs)) y each piece),
+          (Each-more R (pieces_of n m xs) frames (take n (drop (m * n) xs)) y each piece),
       added ∙ ap (λ t. t ++ line y) is ∙ flat_map_more line [] frames y,
     )
 

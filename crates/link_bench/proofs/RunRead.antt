@@ -9,7 +9,7 @@ use Rattle.scenario.specs.declared.kind.Job.TheVariants as job
 use Rattle.scenario.specs.declared.scenario_type.Scenario.{Scenario}
 use Rattle.scenario.specs.Answer.{Answers}
 use Rattle.scenario.specs.Plans.{Plan, plan_of, plan_with}
-use Rattle.scenario.specs.ReadingLaws.{IsLegalPlan}
+use Rattle.scenario.specs.laws.ReadingLaws.{IsLegalPlan}
 use Rattle.scenario.specs.Reads.{Seen, Refusal, reads}
 use Rattle.scenario.proofs.ReadingLaws.{frame-size, reads-legal-plans, reads-plans}
 use Rattle.link_run.proofs.FeedLemmas.{fits, same_params}
@@ -18,7 +18,7 @@ use Rattle.link_laws.specs.Laws.{IsPlanRead}
 use Rattle.link_laws_c.specs.RunLaws.{RunLaws}
 use Rattle.link_laws_c.proofs.RunsByLaws.{runs-by-laws}
 use Rattle.link_bench.specs.Lawful.{RunsAreLawful}
-use Rattle.link_bench.specs.Scenarios.{IsReady}
+use Rattle.link_bench.specs.kept.Scenarios.{IsReady}
 
 -- ---- a scenario that was read for a job is ready for it
 

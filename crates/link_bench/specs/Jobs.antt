@@ -1,7 +1,7 @@
 -- What the words ask for, and what is due for an input.
 use Rattle.std.specs.Prelude.{◌≡◌, ℕ, List, ◌++◌, Option, Some, None, Result, Ok, Err, codes, decimal, option_and_then}
 use Rattle.link_params.specs.declared.fields.Params.{Params}
-use Rattle.bench_words.specs.Reading.{words_of}
+use Rattle.bench_words.specs.Reading.{asked_by_words}
 use Rattle.bench_words.specs.declared.asked.Task.{Task}
 use Rattle.bench_words.specs.declared.asked.Task.TheVariants as task
 use Rattle.bench_words.specs.declared.asked.Words.{Words}
@@ -23,7 +23,7 @@ job_of task.Gen = None
 
 -- the job that the words ask for, None where they are refused
 abbrev pub asked_job : List (List ℕ) → Option Job
-asked_job words = option_and_then (λ (w : Words). job_of w.task) (words_of words)
+asked_job words = option_and_then (λ (w : Words). job_of w.task) (asked_by_words words)
 
 abbrev pub usage : List ℕ
 usage = codes "usage: jesd_bench JOB [--workers N] [--number N]\n"

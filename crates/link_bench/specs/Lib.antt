@@ -1,5 +1,5 @@
 pub mod Lines
 pub mod Jobs
 pub mod Causes
-pub mod Scenarios
 pub mod Lawful
+pub mod kept

@@ -3,7 +3,7 @@ ghost use Rattle.std.specs.Prelude.{◌≡◌, map, nat_lt, IfOk, string_bytes};
 ghost use Rattle.scenario.specs.declared.kind.Job.TheVariants as job;
 ghost use Rattle.scenario.specs.Reads.{bad_at};
 ghost use Rattle.link_bench.specs.Jobs.{asked_job, bad_line};
-ghost use Rattle.link_bench.specs.Scenarios.{IsLines, IsReady, alarms_for};
+ghost use Rattle.link_bench.specs.kept.Scenarios.{IsLines, IsReady, alarms_for};
 ghost use Rattle.link_bench.specs.Causes.{Causes, IsComplete};
 ghost use Rattle.link_bench.specs.Lawful.{RunsAreLawful};
 

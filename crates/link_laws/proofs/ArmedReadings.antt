@@ -25,7 +25,7 @@ use Rattle.code_8b10b.proofs.Readings.{reads_spelling}
 use Rattle.lane_b.specs.Locking.{Lock, bits_taken, from_other, is_comma_char, is_empty, lock, lock_at, order_at, since_start, tick_of_start}
 use Rattle.lane_b.specs.Received.{lanes_b, report_b, report_of}
 use Rattle.lane_b.specs.Sent.{char_of}
-use Rattle.lane_b.specs.Senders.{rd_after}
+use Rattle.lane_b.specs.kept.Senders.{rd_after}
 use Rattle.lane_b.proofs.ChainLemmas.{from_other-append_none, from_other-append_some, is_empty-nil, length-readings, rd_after-append, readings-append}
 use Rattle.lane_b.proofs.SearchLemmas.{bits_to_start-inside, length-bits_taken}
 use Rattle.scenario.specs.Plans.{Plan}

@@ -22,7 +22,7 @@ use Rattle.code_8b10b.specs.declared.character.Reading.TheVariants.{Char as Read
 use Rattle.lane_scramble.specs.Scrambling.{descrambled15, scrambled15, start15}
 use Rattle.lane_scramble.proofs.ScrambleLemmas.{descrambled_again, keep_length}
 use Rattle.char_replace.specs.declared.restored.Restored.{Restored}
-use Rattle.char_replace.specs.Replacement.{IsReplaced, char_due, ends_frame, ends_multiframe}
+use Rattle.char_replace.specs.Replacement.{IsReplaced, char_due, ends_frame_only, ends_multiframe}
 use Rattle.char_replace.specs.Restoring.{IsRestored, given_at, is_accepted, is_bad_char, is_repeat, nothing}
 use Rattle.char_replace.proofs.RoundTrip.{restores_octets}
 use Rattle.lane_b.specs.Sent.{coded_octets, octets_of, replaced, scrambled_octets}
@@ -108,7 +108,7 @@ accepts-none p x o first = elim (cases_Bool p.scr) [
   | inr plain ↦
       let early = lt-leb p.f x first in
       rw (plain, early)
-      (and_right (((o == 0x7C) && ends_multiframe p x) || ((o == 0xFC) && ends_frame p x)) false
+      (and_right (((o == 0x7C) && ends_multiframe p x) || ((o == 0xFC) && ends_frame_only p x)) false
       refl)
 ]
 

@@ -15,14 +15,14 @@ use Rattle.code_8b10b.specs.declared.character.Char.TheVariants.{Data, Control}
 use Rattle.code_8b10b.specs.declared.character.Reading.{Reading}
 use Rattle.code_8b10b.specs.declared.character.Reading.TheVariants.{Char as Read, Disparity, Invalid}
 use Rattle.char_replace.specs.declared.restored.Restored.{Restored}
-use Rattle.char_replace.specs.Replacement.{ends_frame, ends_multiframe}
+use Rattle.char_replace.specs.Replacement.{ends_frame_only, ends_multiframe}
 use Rattle.char_replace.specs.Restoring.{given_at, is_accepted, is_bad_char, is_repeat, nothing}
-use Rattle.lane_b.specs.Cells.{bad_read, octets_read}
+use Rattle.lane_b.specs.kept.Cells.{bad_read, octets_read}
 use Rattle.lane_b.specs.Locking.{lock}
 use Rattle.lane_b.specs.Received.{cells, data_cells, descrambled_octets, marked, restored, spread}
 use Rattle.lane_b.proofs.CodedOctets.{length-octets_of}
 use Rattle.scenario.specs.Plans.{numbers_from}
-use Rattle.link_model.specs.Before.{no_cell}
+use Rattle.link_model.specs.kept.Before.{no_cell}
 use Rattle.link_laws.specs.Checked.{checked_b, data_read, pieces, reading_at, repeated_pieces, scrambled_pieces}
 
 -- the character at a place is bad
@@ -84,7 +84,7 @@ accepted-behind p x (Control o) e =
     let parts = and_parts (not p.scr) (is_accepted p x (Control o)) e in
     let plain = not-true p.scr parts.0 in
     let place =
-    (and_parts (((o == 0x7C) && ends_multiframe p x) || ((o == 0xFC) && ends_frame p x))
+    (and_parts (((o == 0x7C) && ends_multiframe p x) || ((o == 0xFC) && ends_frame_only p x))
     (p.scr || nat_le p.f x) parts.1).1 in
     let low : nat_le p.f x ≡ true = rw plain at place in
     record { plain = plain; behind = leb-true p.f x low }

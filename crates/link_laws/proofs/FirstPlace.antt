@@ -11,7 +11,7 @@ use Rattle.link_model.specs.Edges.{edge_tick, is_reset, last_reset, phase}
 use Rattle.link_model.specs.Orders.{Observed, after_boundary, after_low, from_boundary, from_edge, is_boundary, or_else, order_b, order_c, since_boundary, tx_order}
 use Rattle.link_model.specs.Sends.{observed, observed_at, order_of}
 use Rattle.link_model.specs.Run.{run}
-use Rattle.link_model.specs.Before.{observed_before}
+use Rattle.link_model.specs.kept.Before.{observed_before}
 use Rattle.link_model.proofs.TxHistory.{last-reset-now, observed-before-more, observed-next}
 use Rattle.link_model.specs.Sessions.{at}
 use Rattle.link_laws.specs.Premises.{GivesPhase}

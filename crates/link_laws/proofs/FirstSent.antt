@@ -15,7 +15,7 @@ use Rattle.link_model.specs.Edges.{edge_tick, is_reset, phase}
 use Rattle.link_model.specs.Orders.{Observed, after_boundary, after_low, from_boundary, from_edge, is_boundary, order_b, order_c, since_boundary}
 use Rattle.link_model.specs.Sends.{observed_at}
 use Rattle.link_model.specs.Run.{run}
-use Rattle.link_model.specs.Before.{observed_before}
+use Rattle.link_model.specs.kept.Before.{observed_before}
 use Rattle.link_model.specs.Sessions.{at}
 use Rattle.link_laws.specs.Premises.{GivesPhase}
 use Rattle.link_laws.specs.LaneLaws.{is_first_place}

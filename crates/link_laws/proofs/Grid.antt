@@ -8,7 +8,7 @@ use Rattle.jesd_base.specs.Bits.{bits, value}
 use Rattle.jesd_base.proofs.BitLemmas.{bits_length, value_of_bits}
 use Rattle.link_params.specs.declared.fields.Mode.TheVariants.{B}
 use Rattle.code_8b10b.specs.Commas.{begins, commas, other_commas, stands_at}
-use Rattle.code_8b10b.specs.CommaLaws.{comma_bit, comma_window}
+use Rattle.code_8b10b.specs.laws.CommaLaws.{comma_bit, comma_window}
 use Rattle.code_8b10b.proofs.Characters.{no_slip}
 use Rattle.code_8b10b.proofs.Places.{begins-rest, length-commas, length-other_commas, stands_at-short}
 use Rattle.lane_b.specs.Received.{lanes_b}

@@ -11,7 +11,7 @@ use Rattle.link_params.specs.Laws.{is_b}
 use Rattle.link_params.specs.Numbers.{depth, width}
 use Rattle.lane_b.specs.Received.{lanes_b}
 use Rattle.lane_b.proofs.LaneEntries.{cases-found}
-use Rattle.lane_c.specs.Receivers.{IsArmedOn}
+use Rattle.lane_c.specs.kept.Receivers.{IsArmedOn}
 use Rattle.scenario.specs.Plans.{Plan}
 use Rattle.link_model.specs.Moments.{History}
 use Rattle.link_model.specs.Gives.{gives_in}

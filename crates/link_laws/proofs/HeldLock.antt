@@ -5,7 +5,7 @@ use Rattle.link_params.specs.Lanes.{Taken}
 use Rattle.code_8b10b.specs.Commas.{begins_lock, least_place, stands_at}
 use Rattle.code_8b10b.proofs.Places.{finds_least_place}
 use Rattle.lane_b.specs.Locking.{bits_taken, bits_to_start, is_dropped, is_empty, lock, lock_at, order_at, since_start, tick_of_start}
-use Rattle.lane_b.specs.Receivers.{AreTens, Searches}
+use Rattle.lane_b.specs.kept.Receivers.{AreTens, Searches}
 use Rattle.lane_b.proofs.PlaceLemmas.{inside_of, zero_place}
 use Rattle.lane_b.proofs.SearchLemmas.{bits_taken-append, bits_to_start-inside, least-more, lock-none, lock-some, searches-drop, searches-more, searches-start}
 

@@ -16,10 +16,11 @@ use Rattle.code_8b10b.specs.declared.character.Char.{Char}
 use Rattle.code_8b10b.specs.declared.character.Char.TheVariants.{Data, Control}
 use Rattle.code_8b10b.specs.declared.character.Reading.{Reading}
 use Rattle.code_8b10b.specs.declared.character.Reading.TheVariants.{Char as Read, Invalid}
-use Rattle.ilas.specs.Checked.{cause_at, config_cause, config_read, fault_or, first_fault, ilas_state, is_allowed, octet_of_char, octet_read}
+use Rattle.ilas.specs.Checked.{cause_at, config_cause, config_read, fault_or, first_fault, ilas_state, is_allowed}
 use Rattle.ilas.specs.Sequence.{ilas_char}
 use Rattle.ilas.proofs.Places.{config-char}
 use Rattle.link_laws.specs.LaneLaws.{HasNoFault}
+use Rattle.code_8b10b.specs.Reads.{octet_of_char, octet_read}
 
 -- ---- the sums agree
 

@@ -9,7 +9,7 @@ use Rattle.jesd_base.specs.Bits.{bits}
 use Rattle.link_params.specs.declared.alarms.Device.TheVariants.{Tx}
 use Rattle.link_params.specs.declared.fields.Mode.TheVariants.{B}
 use Rattle.link_params.specs.Laws.{broken_law}
-use Rattle.code_8b10b.specs.CommaLaws.{AreSpellings}
+use Rattle.code_8b10b.specs.laws.CommaLaws.{AreSpellings}
 use Rattle.code_8b10b.specs.Commas.{stands_at}
 use Rattle.code_8b10b.proofs.Characters.{no_imitation}
 use Rattle.lane_b.specs.Received.{lanes_b}

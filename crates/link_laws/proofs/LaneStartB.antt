@@ -20,7 +20,7 @@ use Rattle.code_8b10b.specs.declared.character.Reading.TheVariants.{Char as Read
 use Rattle.ilas.specs.Sequence.{ilas_char}
 use Rattle.lane_b.specs.Locking.{Lock, bits_taken, from_other, is_comma_char, is_dropped, is_empty, lock, lock_at, order_at, since_start, start_of, tick_of_start}
 use Rattle.lane_b.specs.Received.{lanes_b, report_b, report_of}
-use Rattle.lane_b.specs.Receivers.{AreTens}
+use Rattle.lane_b.specs.kept.Receivers.{AreTens}
 use Rattle.lane_b.specs.Sent.{char_of}
 use Rattle.lane_b.proofs.ChainLemmas.{is_empty-nil}
 use Rattle.lane_b.proofs.SearchLemmas.{bits_to_start-inside, length-bits_taken, place-lock_at}

@@ -13,7 +13,7 @@ use Rattle.bring_up.specs.declared.stage.Stage.TheVariants as stage
 use Rattle.bring_up.specs.declared.stage.Decision.TheVariants as decision
 use Rattle.bring_up.specs.Decisions.{decide}
 use Rattle.lane_b.specs.Locking.{no_order, order_at}
-use Rattle.lane_b.specs.Receivers.{AreTens}
+use Rattle.lane_b.specs.kept.Receivers.{AreTens}
 use Rattle.lane_b.specs.Received.{lanes_b, report_b}
 use Rattle.lane_b.proofs.SearchLemmas.{are_tens-more}
 use Rattle.scenario.specs.Plans.{Plan, numbers_from}

@@ -21,7 +21,7 @@ use Rattle.lane_b.specs.Locking.{Lock, lock, since_start, start_of}
 use Rattle.lane_b.specs.Loss.{ilas_length}
 use Rattle.lane_b.specs.Received.{data_cells, entries_b, entries_of, entries_since, is_started_inside, lanes_b}
 use Rattle.scenario.specs.Plans.{Plan, numbers_from}
-use Rattle.link_model.specs.Before.{no_cell}
+use Rattle.link_model.specs.kept.Before.{no_cell}
 use Rattle.link_model.specs.Gives.{octets_in}
 use Rattle.link_model.specs.Run.{run}
 use Rattle.link_model.proofs.FactsB.{facts-b}

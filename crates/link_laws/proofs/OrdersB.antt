@@ -12,7 +12,7 @@ use Rattle.link_model.specs.Edges.{is_reset}
 use Rattle.link_model.specs.Orders.{Observed, after_boundary, after_low, from_boundary, is_boundary, order_b, since_boundary}
 use Rattle.link_model.specs.Sends.{observed_at}
 use Rattle.link_model.specs.Run.{run}
-use Rattle.link_model.specs.Before.{observed_before}
+use Rattle.link_model.specs.kept.Before.{observed_before}
 use Rattle.link_model.specs.Sessions.{at}
 use Rattle.link_laws.specs.LaneLaws.{is_first_place}
 use Rattle.link_laws.proofs.FirstPlace.{first-b, order-is, seen, seen-next, seen-suc, tx-order-b}

@@ -16,7 +16,7 @@ use Rattle.link_model.specs.Orders.{Observed, after_boundary, after_low, from_bo
 use Rattle.link_model.specs.Moments.{Moment}
 use Rattle.link_model.specs.Sends.{data_place, observed_at, seen_low}
 use Rattle.link_model.specs.Run.{run}
-use Rattle.link_model.specs.Before.{observed_before}
+use Rattle.link_model.specs.kept.Before.{observed_before}
 use Rattle.link_model.specs.Sessions.{at}
 use Rattle.link_laws.specs.Premises.{GivesPhase}
 use Rattle.link_laws.specs.LaneLaws.{is_first_place}

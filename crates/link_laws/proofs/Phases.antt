@@ -14,7 +14,7 @@ use Rattle.link_params.specs.Laws.{ceil}
 use Rattle.link_params.specs.Numbers.{period, rx_edge, tx_edge}
 use Rattle.link_params.specs.TimingLaws.{is_steady}
 use Rattle.sysref_clock.specs.Clocks.{captured, first_edge, phase_after, place_of_edge}
-use Rattle.sysref_clock.specs.ClockLaws.{IsFirstEdge}
+use Rattle.sysref_clock.specs.laws.ClockLaws.{IsFirstEdge}
 use Rattle.sysref_clock.proofs.Edges.{phase_is_of_first}
 use Rattle.scenario.specs.Plans.{Plan, numbers_from}
 use Rattle.link_model.specs.Edges.{edge_tick, edges, is_edge, is_reset, jitter, last_reset, phase, skew}

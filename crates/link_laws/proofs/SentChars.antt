@@ -27,7 +27,7 @@ use Rattle.lane_b.specs.Received.{lanes_b}
 use Rattle.link_params.specs.Laws.{broken_law, is_b}
 use Rattle.link_params.proofs.LawFacts.{rooms}
 use Rattle.lane_b.specs.Sent.{char_of, coded_octets, scrambled_octets, data_char, data_octets, going_on, is_first_data, octets_of, replaced, sent_words}
-use Rattle.lane_b.specs.Senders.{HasSpellings, rd_after}
+use Rattle.lane_b.specs.kept.Senders.{HasSpellings, rd_after}
 use Rattle.lane_b.proofs.Spelled.{comma-spelled, due-spelled, ilas-spelled}
 use Rattle.lane_b.proofs.SentWords.{rd_after-more, sent_words-more}
 use Rattle.scenario.specs.Plans.{Plan}

@@ -22,7 +22,7 @@ use Rattle.code_8b10b.specs.declared.character.Char.TheVariants.{Data, Control}
 use Rattle.code_8b10b.specs.Code.{spelling}
 use Rattle.ilas.specs.Sequence.{ilas_char}
 use Rattle.lane_b.specs.Sent.{char_of, coded_octets, data_char, data_octets, going_on, is_first_data, replaced, sent_b, sent_words}
-use Rattle.lane_b.specs.Senders.{HasSpellings, rd_after}
+use Rattle.lane_b.specs.kept.Senders.{HasSpellings, rd_after}
 use Rattle.lane_b.proofs.SentWords.{data_octets-more, sent_words-more}
 use Rattle.lane_b.proofs.Spelled.{comma-spelled, due-spelled, ilas-spelled}
 use Rattle.lane_b.specs.Received.{lanes_b}

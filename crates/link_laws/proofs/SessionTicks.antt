@@ -11,7 +11,7 @@ use Rattle.link_model.specs.Moments.{History}
 use Rattle.link_model.specs.Hunts.{begins_hunt, ends_in_hunt, from_hunt, session}
 use Rattle.link_model.specs.Run.{run}
 use Rattle.link_model.specs.Receives.{told_of}
-use Rattle.link_model.specs.Before.{current}
+use Rattle.link_model.specs.kept.Before.{current}
 use Rattle.link_model.proofs.LaneHistory.{from-hunt-here, from-hunt-more}
 use Rattle.link_model.proofs.RxHistory.{ends-in-hunt-more}
 use Rattle.link_model.specs.Sessions.{at, decides_hunt, first_tick}

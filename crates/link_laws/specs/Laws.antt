@@ -12,7 +12,6 @@ use Rattle.link_params.specs.Laws.{is_b, broken_law}
 use Rattle.link_params.specs.Lanes.{LaneKind}
 use Rattle.link_params.specs.Numbers.{bound, depth, lat_ticks, latency, octets_per_tick, period}
 use Rattle.link_params.specs.TimingLaws.{broken_timing}
-use Rattle.sample_map.specs.LayoutLaws.{FitFrame}
 use Rattle.code_8b10b.specs.Commas.{stands_at}
 use Rattle.bring_up.specs.declared.stage.Decision.TheVariants.{Release}
 use Rattle.bring_up.specs.Decisions.{is_running, some_started}
@@ -27,6 +26,7 @@ use Rattle.link_model.specs.Sessions.{InSession, at, decides_hunt, delivered_by,
 use Rattle.link_laws.specs.Premises.{Clean, Inside, IsWithin, Lone, Met, Pattern, Undamaged}
 use Rattle.link_laws.specs.LaneLaws.{IsMarkedWell, LaneLaws}
 use Rattle.link_laws.specs.Checked.{Checks, checked_frame}
+use Rattle.sample_map.specs.Layout.{FitFrame}
 
 -- ---- Latency: each frame leaves LAT octets after it entered
 

@@ -7,7 +7,7 @@ use Rattle.link_params.specs.Laws.{is_b}
 use Rattle.scenario.specs.Plans.{Plan}
 use Rattle.link_model.specs.Edges.{edge_tick}
 use Rattle.multiblock.specs.Places.{Place, least_place}
-use Rattle.multiblock.specs.PlaceLaws.{IsLeastPlace}
+use Rattle.multiblock.specs.laws.PlaceLaws.{IsLeastPlace}
 use Rattle.multiblock.proofs.PlaceLemmas.{finds_least_place, place_stays}
 use Rattle.lane_c.specs.Received.{lanes_c}
 use Rattle.lane_c.proofs.SenderSteps.{some-multiblocks}

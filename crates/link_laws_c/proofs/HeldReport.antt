@@ -9,7 +9,7 @@ use Rattle.link_params.specs.Lanes.{Taken}
 use Rattle.scenario.specs.Plans.{Plan}
 use Rattle.link_model.specs.Edges.{phase}
 use Rattle.multiblock.specs.Places.{Place, least_place, pattern_size}
-use Rattle.multiblock.specs.PlaceLaws.{IsLeastPlace}
+use Rattle.multiblock.specs.laws.PlaceLaws.{IsLeastPlace}
 use Rattle.multiblock.proofs.PlaceLemmas.{finds_least_place}
 use Rattle.lane_c.specs.Locking.{arrives}
 use Rattle.lane_c.specs.Received.{lanes_c, report_of}

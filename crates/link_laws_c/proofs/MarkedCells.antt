@@ -17,11 +17,11 @@ use Rattle.link_params.proofs.LawFacts.{legal_sizes}
 use Rattle.multiblock.specs.Places.{Place}
 use Rattle.lane_c.specs.Locking.{bits_taken, leaves, offset_of, place, start}
 use Rattle.lane_c.specs.Received.{cell, cells, cells_left, entries_c, entries_from, entries_of, lanes_c}
-use Rattle.lane_c.specs.Receivers.{no_block}
+use Rattle.lane_c.specs.kept.Receivers.{no_block}
 use Rattle.lane_c.specs.Statuses.{Judged, known_blocks}
 use Rattle.lane_c.proofs.Starting.{start-locked}
 use Rattle.scenario.specs.Plans.{Plan, numbers_from}
-use Rattle.link_model.specs.Before.{no_cell}
+use Rattle.link_model.specs.kept.Before.{no_cell}
 use Rattle.link_model.specs.Gives.{octets_in}
 use Rattle.link_model.specs.Run.{run}
 use Rattle.link_model.specs.Sessions.{taken_at}

@@ -15,7 +15,7 @@ use Rattle.block_66b.specs.declared.sync_bit.SyncBit.{SyncBit}
 use Rattle.block_66b.specs.declared.sync_bit.SyncBit.TheVariants.{Zero, One, Bad}
 use Rattle.block_66b.specs.Blocks.{header}
 use Rattle.multiblock.specs.Places.{Place, headers, pattern, pattern_size, span}
-use Rattle.multiblock.specs.PlaceLaws.{IsLeastPlace}
+use Rattle.multiblock.specs.laws.PlaceLaws.{IsLeastPlace}
 use Rattle.multiblock.proofs.PlaceLemmas.{finds_least_place}
 use Rattle.lane_c.specs.Received.{lanes_c}
 use Rattle.link_model.specs.Sessions.{first_tick}

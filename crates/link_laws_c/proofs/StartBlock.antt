@@ -6,7 +6,7 @@ use Rattle.jesd_base.proofs.BitLemmas.{finds_least}
 use Rattle.link_params.specs.Lanes.{Taken}
 use Rattle.scenario.specs.Plans.{Plan}
 use Rattle.multiblock.specs.Places.{Place, least_place, pattern, pattern_size, span}
-use Rattle.multiblock.specs.PlaceLaws.{IsLeastPlace}
+use Rattle.multiblock.specs.laws.PlaceLaws.{IsLeastPlace}
 use Rattle.multiblock.proofs.PlaceLemmas.{finds_least_place, pattern_stays}
 use Rattle.lane_c.specs.Locking.{offset_of, start, starts}
 use Rattle.lane_c.specs.Received.{lanes_c}

@@ -9,13 +9,13 @@ use Rattle.bring_up.specs.declared.stage.Decision.{Decision}
 use Rattle.bring_up.specs.declared.stage.Decision.TheVariants as decision
 use Rattle.bring_up.specs.Decisions.{Decided, Standing, after_decision, decide, is_hunting}
 use Rattle.lane_c.specs.Locking.{order_at}
-use Rattle.lane_c.specs.Receivers.{IsArmedOn}
+use Rattle.lane_c.specs.kept.Receivers.{IsArmedOn}
 use Rattle.scenario.specs.Plans.{Plan}
 use Rattle.link_model.proofs.KindFacts.{StayArmed, armed-more, armed-none, order-end}
 use Rattle.link_model.proofs.LaneHistory.{HasHunt, current-session, has-hunt-run, hunt-next, session-goes-on, session-hunt, taken-in-more}
 use Rattle.link_model.proofs.NextMoment.{decided-next, next, stage-next, told-next, with_next}
 use Rattle.link_model.proofs.RxHistory.{ends-in-hunt-more, stage-standing, standing-kept, standing_after}
-use Rattle.link_model.specs.Before.{current}
+use Rattle.link_model.specs.kept.Before.{current}
 use Rattle.link_model.specs.Edges.{is_reset}
 use Rattle.link_model.specs.Hunts.{begins_hunt, ends_in_hunt, from_hunt, is_hunt, session, standing}
 use Rattle.link_model.specs.Moments.{History}

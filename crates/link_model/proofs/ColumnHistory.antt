@@ -10,7 +10,7 @@ use Rattle.link_params.specs.Lanes.{Entry, LaneKind, Placed, Taken}
 use Rattle.link_params.specs.Numbers.{octets_per_tick}
 use Rattle.bring_up.specs.declared.stage.Stage.TheVariants as stage
 use Rattle.bring_up.specs.Decisions.{is_running}
-use Rattle.lane_b.specs.Gives.{given}
+use Rattle.lane_b.specs.kept.Gives.{given}
 use Rattle.scenario.specs.Plans.{Plan, numbers_from}
 use Rattle.link_model.proofs.Depth.{HasDepth, ready, tick-outcome, word-size}
 use Rattle.link_model.proofs.EntryCells.{HasCells, cells-of-entries}
@@ -20,10 +20,10 @@ use Rattle.link_model.proofs.NextMoment.{lanes_of, next, took, with_next}
 use Rattle.link_model.proofs.NumberLists.{map-numbers}
 use Rattle.link_model.proofs.OctetColumns.{grid, grid-is, grid-next, length-grid, length-octets, octets-given-are, all_octets}
 use Rattle.link_model.proofs.WindowFacts.{IsLegal}
-use Rattle.link_model.specs.Before.{Columns, columns_now, current, no_cell, octet_columns}
+use Rattle.link_model.specs.kept.Before.{Columns, columns_now, current, no_cell, octet_columns}
 use Rattle.link_model.specs.Gives.{cells_in, gives_in, octets_given}
 use Rattle.link_model.specs.Hunts.{from_hunt, session}
-use Rattle.link_model.specs.LaneRuns.{given_by, lane_stepped}
+use Rattle.link_model.specs.kept.LaneRuns.{given_by, lane_stepped}
 use Rattle.link_model.specs.Moments.{History}
 use Rattle.link_model.specs.Receives.{taken_in, told_of}
 

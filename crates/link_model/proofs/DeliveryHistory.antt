@@ -27,7 +27,7 @@ use Rattle.link_model.proofs.OctetColumns.{grid, octets-given-are}
 use Rattle.link_model.proofs.RunTicks.{length-run}
 use Rattle.link_model.proofs.WholeFrames.{delivered-none, div-le, frame_at, whole-part}
 use Rattle.link_model.proofs.WindowFacts.{IsLegal, legal}
-use Rattle.link_model.specs.Before.{Columns, cells_of, columns_now, current, delivered_at, mark_of, values_of}
+use Rattle.link_model.specs.kept.Before.{Columns, cells_of, columns_now, current, delivered_at, mark_of, values_of}
 use Rattle.link_model.specs.Gives.{frame_cells, frame_given, frames_given, frames_in, gives_in, octets_given}
 use Rattle.link_model.specs.Hunts.{from_hunt, or_else, session}
 use Rattle.link_model.specs.Kinds.{kind_of, moment_of, run_of}

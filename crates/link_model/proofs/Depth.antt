@@ -14,7 +14,7 @@ use Rattle.line_model.specs.LineBits as line
 use Rattle.bring_up.specs.declared.stage.Stage.TheVariants as stage
 use Rattle.bring_up.specs.declared.stage.Decision.TheVariants as decision
 use Rattle.bring_up.specs.Decisions.{Decided, Standing, after_decision, decide, is_running}
-use Rattle.lane_c.specs.Receivers.{IsArmedOn}
+use Rattle.lane_c.specs.kept.Receivers.{IsArmedOn}
 use Rattle.scenario.specs.Plans.{Plan}
 use Rattle.link_model.proofs.ArmedHistory.{HasArmed, arming, armed-next, armed-start}
 use Rattle.link_model.proofs.DecisionCases.{no_report}
@@ -26,7 +26,7 @@ use Rattle.link_model.proofs.NumberLists.{get_or-numbers, length-numbers}
 use Rattle.link_model.proofs.RxHistory.{ends-in-hunt-more, stage-standing, standing-after-none, standing-kept, standing-reset, standing_after}
 use Rattle.link_model.proofs.TxHistory.{length-more}
 use Rattle.link_model.proofs.WindowFacts.{IsLegal, legal, phase-next}
-use Rattle.link_model.specs.Before.{current, entries_now}
+use Rattle.link_model.specs.kept.Before.{current, entries_now}
 use Rattle.link_model.specs.Edges.{is_reset, phase}
 use Rattle.link_model.specs.Gives.{gives_in}
 use Rattle.link_model.specs.Hunts.{begins_hunt, ends_in_hunt, from_hunt, session, standing}

@@ -20,7 +20,7 @@ use Rattle.sysref_clock.specs.Clocks.{captured, place_of_edge}
 use Rattle.scenario.specs.declared.plan.Jitter.{Jitter}
 use Rattle.scenario.specs.Limits.{jitter_fits}
 use Rattle.scenario.specs.Plans.{Plan, numbers_from}
-use Rattle.link_model.specs.Before.{IsNear, IsPaced, edges_before}
+use Rattle.link_model.specs.kept.Before.{IsNear, IsPaced, edges_before}
 use Rattle.link_model.specs.Edges.{edge_tick, edges, is_device, is_edge, is_reset, jitter, last_reset, skew}
 
 -- ---- the limits of a link

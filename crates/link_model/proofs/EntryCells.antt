@@ -6,9 +6,9 @@ use Rattle.std.proofs.lemmas.List.{length-map, length-replicate}
 use Rattle.link_params.specs.declared.fields.Params.{Params}
 use Rattle.link_params.specs.declared.cells.LaneCell.{LaneCell}
 use Rattle.link_params.specs.Lanes.{Entry, Placed, Held}
-use Rattle.lane_b.specs.Gives.{given}
+use Rattle.lane_b.specs.kept.Gives.{given}
 use Rattle.link_model.proofs.KindFacts.{AreEntries, lead}
-use Rattle.link_model.specs.Before.{no_cell}
+use Rattle.link_model.specs.kept.Before.{no_cell}
 use Rattle.link_model.specs.Gives.{cells_in}
 
 abbrev shape : ℕ → List LaneCell → List Entry

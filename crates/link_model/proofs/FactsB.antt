@@ -7,7 +7,7 @@ use Rattle.link_params.specs.Lanes.{Taken}
 use Rattle.link_params.specs.Laws.{is_b}
 use Rattle.link_params.specs.Numbers.{period, width}
 use Rattle.lane_b.specs.Received.{entries_b, lanes_b}
-use Rattle.lane_b.specs.Receivers.{AreTens}
+use Rattle.lane_b.specs.kept.Receivers.{AreTens}
 use Rattle.lane_b.proofs.LaneEntries as b
 use Rattle.link_model.proofs.KindFacts.{AreEntries, AreTicks, AreWords, IsUnstarted, KindFacts, StartedMore, StartsNow, lead}
 

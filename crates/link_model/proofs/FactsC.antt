@@ -13,7 +13,7 @@ use Rattle.multiblock.specs.Places.{Place, pattern_size}
 use Rattle.lane_b.proofs.LaneEntries.{cases-found}
 use Rattle.lane_c.specs.Locking.{arrives, bits_taken, dropped_at, leaves, offset_of, order_at, place, place_from, start}
 use Rattle.lane_c.specs.Received.{cells, cells_left, entries_c, entries_from, entries_of, lanes_c, report_c, report_of}
-use Rattle.lane_c.specs.Receivers.{AreBlocks}
+use Rattle.lane_c.specs.kept.Receivers.{AreBlocks}
 use Rattle.lane_c.specs.Statuses.{Judged, known_blocks}
 use Rattle.lane_c.proofs.CellsLeft.{known-many, left-more}
 use Rattle.lane_c.proofs.Dropping.{last-order}

@@ -12,7 +12,7 @@ use Rattle.link_params.specs.declared.cells.LaneCell.{LaneCell}
 use Rattle.scenario.specs.Plans.{numbers_from}
 use Rattle.link_model.proofs.NumberLists.{get_or-numbers, length-numbers, map-numbers, map-shift, numbers-append, numbers-more}
 use Rattle.link_model.proofs.OctetColumns.{grid}
-use Rattle.link_model.specs.Before.{cell_at, cells_of, no_cell}
+use Rattle.link_model.specs.kept.Before.{cell_at, cells_of, no_cell}
 use Rattle.link_model.specs.Gives.{frame_cells, part_of_frame}
 
 -- ---- numbers in rows

@@ -14,7 +14,7 @@ use Rattle.link_params.specs.Laws.{is_b}
 use Rattle.link_params.specs.Numbers.{period, width}
 use Rattle.lane_b.proofs.LaneEntries.{cases-found}
 use Rattle.lane_c.specs.Locking.{no_order, order_at}
-use Rattle.lane_c.specs.Receivers.{IsArmedOn}
+use Rattle.lane_c.specs.kept.Receivers.{IsArmedOn}
 
 -- ---- what a lane took
 

@@ -13,7 +13,7 @@ use Rattle.bring_up.specs.declared.stage.Decision.{Decision}
 use Rattle.bring_up.specs.declared.stage.Decision.TheVariants as decision
 use Rattle.bring_up.specs.Decisions.{Standing, after_decision, decide, is_hunting, is_running}
 use Rattle.lane_b.proofs.LaneEntries.{cases-found}
-use Rattle.lane_c.specs.Receivers.{IsArmedOn}
+use Rattle.lane_c.specs.kept.Receivers.{IsArmedOn}
 use Rattle.link_model.proofs.DecisionCases.{hunt-cases, no_report, run-cases, wait-cases}
 use Rattle.link_model.proofs.KindFacts.{AreTicks, KindFacts, StartsNow, started_by}
 use Rattle.link_model.proofs.WindowFacts.{ComesAfter, IsLegal, comes-after-start, goes-near, near-offset, ticks_left}

@@ -12,12 +12,12 @@ use Rattle.scenario.specs.Plans.{Plan}
 use Rattle.link_model.proofs.NextMoment.{lanes_of, next, sent-next, taken-next, told-next, took, with_next}
 use Rattle.link_model.proofs.NumberLists.{get_or-numbers, length-numbers}
 use Rattle.link_model.proofs.TxHistory.{drop-last-reset, drop-reset, drop-reset-before, length-more}
-use Rattle.link_model.specs.Before.{current, dead_before, delay_before, handed_in, reset_before}
+use Rattle.link_model.specs.kept.Before.{current, dead_before, delay_before, handed_in, reset_before}
 use Rattle.link_model.specs.Carried.{received}
 use Rattle.link_model.specs.Edges.{is_reset, last_reset}
 use Rattle.link_model.specs.Gives.{gives_in}
 use Rattle.link_model.specs.Hunts.{begins_hunt, ends_in_hunt, from_hunt, or_else, session}
-use Rattle.link_model.specs.LaneRuns.{LaneRun, bits_with, handed_with, lane_ready, lane_run, lane_stepped, no_run, stepped, word_with}
+use Rattle.link_model.specs.kept.LaneRuns.{LaneRun, bits_with, handed_with, lane_ready, lane_run, lane_stepped, no_run, stepped, word_with}
 use Rattle.link_model.specs.Moments.{History, Moment}
 use Rattle.link_model.specs.Receives.{taken_in, told_of}
 use Rattle.link_model.specs.Run.{run}

@@ -11,7 +11,7 @@ use Rattle.link_params.specs.Numbers.{octets_per_tick}
 use Rattle.scenario.specs.Plans.{numbers_from}
 use Rattle.link_model.proofs.EntryCells.{HasCells}
 use Rattle.link_model.proofs.NumberLists.{length-numbers, map-numbers, map-shift, numbers-append}
-use Rattle.link_model.specs.Before.{Columns, no_cell, octet_columns}
+use Rattle.link_model.specs.kept.Before.{Columns, no_cell, octet_columns}
 use Rattle.link_model.specs.Gives.{cells_in, octets_given, octets_in}
 
 -- all octets of these cells

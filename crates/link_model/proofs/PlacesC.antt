@@ -9,7 +9,7 @@ use Rattle.multiblock.proofs.PlaceLemmas.{finds_least_place, finds_none, pattern
 use Rattle.lane_b.proofs.LaneEntries.{cases-found}
 use Rattle.lane_c.specs.Locking.{bits_taken, dropped_at, is_first, is_locked, leaves, order_at, place, place_from, start, starts, was_armed_before}
 use Rattle.lane_c.specs.Loss.{first_loss, headers_after, pattern_end}
-use Rattle.lane_c.specs.Receivers.{AreBlocks, Searches}
+use Rattle.lane_c.specs.kept.Receivers.{AreBlocks, Searches}
 use Rattle.lane_c.proofs.Dropping.{dropped-of, last-order}
 use Rattle.lane_c.proofs.Headers.{headers-length}
 use Rattle.lane_c.proofs.Losing.{first_loss-is, loss-stays, test-stays, test_of}

@@ -4,7 +4,7 @@ use Rattle.std.proofs.lemmas.List.{get_or_append_left, get_or_push, take-append-
 use Rattle.std.proofs.lemmas.Option.{slice_get-get_or}
 use Rattle.link_params.specs.Lanes.{LaneKind}
 use Rattle.scenario.specs.Plans.{Plan}
-use Rattle.link_model.specs.HistoryLaws.{BeginsTheSame, HasEachTick, OneATick}
+use Rattle.link_model.specs.laws.HistoryLaws.{BeginsTheSame, HasEachTick, OneATick}
 use Rattle.link_model.specs.Moments.{History, Moment}
 use Rattle.link_model.specs.Run.{run}
 use Rattle.link_model.specs.Sessions.{at}

@@ -11,7 +11,7 @@ use Rattle.bring_up.specs.Decisions.{Standing, after_reports, begin, decide_at, 
 use Rattle.scenario.specs.Plans.{Plan}
 use Rattle.link_model.proofs.NextMoment.{decided-next, next, stage-next, with_next}
 use Rattle.link_model.proofs.TxHistory.{drop-reset, drop-reset-before}
-use Rattle.link_model.specs.Before.{decisions_before}
+use Rattle.link_model.specs.kept.Before.{decisions_before}
 use Rattle.link_model.specs.Edges.{is_reset, last_reset}
 use Rattle.link_model.specs.Hunts.{ends_in_hunt, is_hunt, points, standing}
 use Rattle.link_model.specs.Moments.{History, Moment}

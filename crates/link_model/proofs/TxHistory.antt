@@ -10,7 +10,7 @@ use Rattle.bring_up.specs.Decisions.{is_hunting}
 use Rattle.scenario.specs.Plans.{Plan, numbers_from}
 use Rattle.link_model.proofs.NextMoment.{handed-next, lanes_of, next, order-next}
 use Rattle.link_model.proofs.NumberLists.{get_or-numbers, length-numbers, map-numbers, numbers-to}
-use Rattle.link_model.specs.Before.{observed_before, reset_before, seen_of}
+use Rattle.link_model.specs.kept.Before.{observed_before, reset_before, seen_of}
 use Rattle.link_model.specs.Edges.{is_reset, last_reset, phase}
 use Rattle.link_model.specs.Moments.{History, Moment}
 use Rattle.link_model.specs.Orders.{Observed, tx_order}

@@ -14,7 +14,7 @@ use Rattle.link_params.specs.Numbers.{octets_per_tick}
 use Rattle.sample_map.specs.Frames.{words_of}
 use Rattle.scenario.specs.Plans.{numbers_from}
 use Rattle.link_model.proofs.NumberLists.{get_or-numbers, length-numbers, map-numbers, map-shift, numbers-append, numbers-more}
-use Rattle.link_model.specs.Before.{Columns, cell_at, cells_of, delivered_at, mark_of, no_cell, octet_columns, values_of}
+use Rattle.link_model.specs.kept.Before.{Columns, cell_at, cells_of, delivered_at, mark_of, no_cell, octet_columns, values_of}
 use Rattle.link_model.specs.Gives.{octets_in}
 use Rattle.link_model.specs.Moments.{Delivered}
 

@@ -1,7 +1,5 @@
 pub mod Carried
-pub mod Before
 pub mod Edges
-pub mod LaneRuns
 pub mod Orders
 pub mod Report
 pub mod Moments
@@ -11,5 +9,6 @@ pub mod Receives
 pub mod Gives
 pub mod Run
 pub mod Sessions
-pub mod HistoryLaws
 pub mod Kinds
+pub mod kept
+pub mod laws

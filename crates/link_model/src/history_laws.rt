@@ -1,5 +1,5 @@
 //! Laws of histories.
-ghost use Rattle.link_model.specs.HistoryLaws.{BeginsTheSame, HasEachTick, OneATick};
+ghost use Rattle.link_model.specs.laws.HistoryLaws.{BeginsTheSame, HasEachTick, OneATick};
 
 /// The history of a run of t ticks has t moments, is the beginning of the history of each longer
 /// run, and its moment of a tick is what the definition gives for that tick. So what is said of a

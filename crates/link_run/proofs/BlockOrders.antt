@@ -9,12 +9,12 @@ use Rattle.link_params.specs.declared.orders.TxOrder.{TxOrder}
 use Rattle.link_params.specs.declared.orders.TxOrder.TheVariants.{Comma, Ilas, Data as DataOrder, Silent, Block}
 use Rattle.link_params.specs.Laws.{is_b}
 use Rattle.link_params.specs.Numbers.{period}
-use Rattle.lane_b.specs.Senders.{Follows as FollowsB, next_place}
+use Rattle.lane_b.specs.kept.Senders.{Follows as FollowsB, place_after_order}
 use Rattle.link_model.specs.Orders.{Observed, from_edge, order_c, tx_order}
 use Rattle.link_run.specs.declared.alignment.Alignment.{Alignment}
 use Rattle.link_run.specs.declared.sending.Sending.TheVariants.{Octets, Blocks}
-use Rattle.link_run.specs.Alignments.{GoesOnTo as GoesOnToB, next_of as next_of_octets}
-use Rattle.link_run.specs.Sendings.{BlocksGoOn, FollowsOn, GoesOnTo, HasObserved, next_after, next_of_blocks}
+use Rattle.link_run.specs.kept.Alignments.{GoesOnTo as GoesOnToB, next_of as next_of_octets}
+use Rattle.link_run.specs.kept.Sendings.{BlocksGoOn, FollowsOn, GoesOnTo, HasObserved, next_after, next_of_blocks}
 
 pub mode-is : (m : Mode) → is_b m ≡ true → m ≡ B
 mode-is B e = refl
@@ -142,7 +142,7 @@ unfolding tx_order
 order-c p hs e = rw e refl
 
 next-places : (p : Params) (next : Option ℕ) (order : TxOrder) → FollowsB p next order
-    → next_place p order ≡ next_after p order
+    → place_after_order p order ≡ next_after p order
 next-places p next Comma f = refl
 next-places p next (Ilas x) f = refl
 next-places p next (DataOrder x first) f = refl

@@ -2,21 +2,21 @@
 use Rattle.std.proofs.Common.{◌≡◌, ◌≤◌, ◌<◌, ◌+◌, ◌==◌, ℕ, Bool, [], ◌∷◌, ◌++◌, IsTrue, All, sym, ◌∙◌, ap, subst, add-one, arith, inl, inr}
 use Rattle.std.proofs.lemmas.Bool.{cases_lt}
 use Rattle.link_params.specs.Numbers.{period}
-use Rattle.sysref_clock.specs.Ticks.{Clock, HasTicked}
+use Rattle.sysref_clock.specs.kept.Ticks.{Clock, HasTicked}
 use Rattle.scenario.specs.Limits.{jitter_fits}
 use Rattle.scenario.specs.Plans.{Plan}
 use Rattle.link_model.proofs.EdgeTicks.{IsRegular, edges-taken, is_edge-next, later, taken}
-use Rattle.link_model.specs.Before.{IsPaced}
+use Rattle.link_model.specs.kept.Before.{IsPaced}
 use Rattle.link_model.specs.Edges.{edge_tick, edges, is_edge, is_reset}
-use Rattle.link_run.specs.Clocked.{Clocking, HasRunTo}
+use Rattle.link_run.specs.kept.Clocked.{Clocking, HasClocked}
 
 -- ---- what a clock keeps
 
 pub regular : (s : Plan) (now : Clocking) (t : ℕ) → IsPaced now.link
-    → All (λ j. IsTrue (jitter_fits j)) s.jitters → HasRunTo now s t → IsRegular s
+    → All (λ j. IsTrue (jitter_fits j)) s.jitters → HasClocked now s t → IsRegular s
 regular s now t h all run = record { link = subst IsPaced run.same_link h; jitters = all }
 
-is_edge-kept : (s : Plan) (now : Clocking) (t : ℕ) → IsRegular s → HasRunTo now s t
+is_edge-kept : (s : Plan) (now : Clocking) (t : ℕ) → IsRegular s → HasClocked now s t
     → is_edge s now.device t ≡ (t == now.tick)
 is_edge-kept s now t h run =
     let e = run.next_edge in
@@ -24,7 +24,7 @@ is_edge-kept s now t h run =
     is_edge-next s now.device t now.next h run.passed (omega arith) ∙ ap (λ x. t == x) (sym e)
 
 -- the edges up to tick t, as the clock took them
-pub edges-kept : (s : Plan) (now : Clocking) (t : ℕ) (reset : Bool) → IsRegular s → HasRunTo now s t
+pub edges-kept : (s : Plan) (now : Clocking) (t : ℕ) (reset : Bool) → IsRegular s → HasClocked now s t
     → reset ≡ is_reset s now.device t
     → taken s now.device t reset ++ (t == now.tick) ∷ [] ≡ edges s now.device t
 edges-kept s now t reset h run is =
@@ -32,10 +32,10 @@ edges-kept s now t reset h run is =
     ∙ sym (edges-taken s now.device t reset is)
 
 -- no edge comes in tick t
-pub stays : (s : Plan) (now : Clocking) (t : ℕ) (clock : Clock) → HasRunTo now s t
+pub stays : (s : Plan) (now : Clocking) (t : ℕ) (clock : Clock) → HasClocked now s t
     → (t ≡ now.tick → ⊥)
     → HasTicked clock (period s.link.params) (edges s now.device t)
-    → HasRunTo
+    → HasClocked
     (record {
       link = now.link;
       device = now.device;
@@ -60,10 +60,10 @@ stays s now t clock run apart ticked =
 
 -- the next edge comes in tick t
 pub moves : (s : Plan) (now : Clocking) (t : ℕ) (clock : Clock) (tick : ℕ) → IsRegular s
-    → HasRunTo now s t → t ≡ now.tick
+    → HasClocked now s t → t ≡ now.tick
     → tick ≡ edge_tick s now.device (now.next + 1)
     → HasTicked clock (period s.link.params) (edges s now.device t)
-    → HasRunTo
+    → HasClocked
     (record {
       link = now.link;
       device = now.device;

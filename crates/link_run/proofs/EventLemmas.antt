@@ -16,13 +16,13 @@ use Rattle.link_params.specs.Links.{Link}
 use Rattle.scenario.specs.declared.scenario_type.Scenario.{Scenario}
 use Rattle.scenario.specs.Limits.{event_fits, what_fits}
 use Rattle.scenario.specs.Plans.{Plan, plan_of, plan_with, source_in}
-use Rattle.link_model.specs.Before.{dead_before, delay_before}
+use Rattle.link_model.specs.kept.Before.{dead_before, delay_before}
 use Rattle.link_model.specs.Carried.{dead_after, delay_after, delay_at, first_delay, is_dead}
 use Rattle.link_model.specs.Edges.{is_reset, resets}
-use Rattle.link_model.specs.LaneRuns.{LaneRun}
+use Rattle.link_model.specs.kept.LaneRuns.{LaneRun}
 use Rattle.link_run.proofs.PlanFacts.{plan-facts}
-use Rattle.link_run.specs.Happened.{AreAsBefore, as_of}
-use Rattle.link_run.specs.LaneRuns.{AreAt, HasRunLane, HaveRun, Pair, with_lane}
+use Rattle.link_run.specs.kept.Happened.{AreAsBefore, as_of}
+use Rattle.link_run.specs.kept.LaneRuns.{AreAt, HasRunLane, HaveRunLanes, Pair, with_lane}
 
 -- the ticks do not fall, and are at least a
 abbrev pub Ascends : List Event → ℕ → Type 0
@@ -256,7 +256,7 @@ after es lane x = record x {
 }
 
 pub have-each : (lanes : List Pair) (s : Plan) (f g : ℕ → LaneRun) → ((lane : ℕ) → f lane ≡ g lane)
-    → HaveRun lanes s f → HaveRun lanes s g
+    → HaveRunLanes lanes s f → HaveRunLanes lanes s g
 have-each lanes s f g same run = (
   run.0,
   λ lane d below. subst (HasRunLane (get_or lanes lane d) s lane) (same lane)
@@ -265,8 +265,8 @@ have-each lanes s f g same run = (
 
 pub after-happens : (lanes : List Pair) (s : Plan) (t : ℕ) (runs : ℕ → LaneRun) → Ascends s.events 0
     → AreAsBefore s t runs
-    → HaveRun lanes s (λ lane. after (happens t s.events) lane (runs lane))
-    → HaveRun lanes s (λ lane. as_of s t lane (runs lane))
+    → HaveRunLanes lanes s (λ lane. after (happens t s.events) lane (runs lane))
+    → HaveRunLanes lanes s (λ lane. as_of s t lane (runs lane))
 after-happens lanes s t runs h before run =
     have-each lanes s (λ lane. after (happens t s.events) lane (runs lane))
     (λ lane. as_of s t lane (runs lane))
@@ -281,10 +281,10 @@ one what lane x =
     record x { delay = delay_after lane x.delay what; dead = dead_after lane x.dead what }
 
 pub reset-passes : (lanes : List Pair) (s : Plan) (runs : ℕ → LaneRun) (device : Device)
-    (what : What) → what ≡ Reset device → HaveRun lanes s runs
-    → HaveRun lanes s (λ lane. one what lane (runs lane))
+    (what : What) → what ≡ Reset device → HaveRunLanes lanes s runs
+    → HaveRunLanes lanes s (λ lane. one what lane (runs lane))
 reset-passes lanes s runs device what is run =
-    subst (λ w. HaveRun lanes s (λ lane. one w lane (runs lane))) (sym is) run
+    subst (λ w. HaveRunLanes lanes s (λ lane. one w lane (runs lane))) (sym is) run
 
 pick : (b : Bool) (x y z : LaneRun) → (b ≡ true → x ≡ y)
     → (if b then x else z) ≡ (if b then y else z)
@@ -310,10 +310,10 @@ dead-one false on x = refl
 
 pub delayed : (lanes : List Pair) (s : Plan) (runs : ℕ → LaneRun) (lane bits : ℕ) (what : What)
     → what ≡ Delay lane bits
-    → HaveRun lanes s (with_lane runs lane (record (runs lane) { delay = bits }))
-    → HaveRun lanes s (λ k. one what k (runs k))
+    → HaveRunLanes lanes s (with_lane runs lane (record (runs lane) { delay = bits }))
+    → HaveRunLanes lanes s (λ k. one what k (runs k))
 delayed lanes s runs lane bits what is run =
-    subst (λ w. HaveRun lanes s (λ k. one w k (runs k))) (sym is)
+    subst (λ w. HaveRunLanes lanes s (λ k. one w k (runs k))) (sym is)
     (have-each lanes s (with_lane runs lane (record (runs lane) { delay = bits }))
     (λ k. one (Delay lane bits) k (runs k))
     (λ k. pick (k == lane) (record (runs lane) { delay = bits }) (record (runs k) { delay = bits })
@@ -324,10 +324,10 @@ delayed lanes s runs lane bits what is run =
 
 pub died : (lanes : List Pair) (s : Plan) (runs : ℕ → LaneRun) (lane : ℕ) (on : Bool) (what : What)
     → what ≡ Dead lane on
-    → HaveRun lanes s (with_lane runs lane (record (runs lane) { dead = on }))
-    → HaveRun lanes s (λ k. one what k (runs k))
+    → HaveRunLanes lanes s (with_lane runs lane (record (runs lane) { dead = on }))
+    → HaveRunLanes lanes s (λ k. one what k (runs k))
 died lanes s runs lane on what is run =
-    subst (λ w. HaveRun lanes s (λ k. one w k (runs k))) (sym is)
+    subst (λ w. HaveRunLanes lanes s (λ k. one w k (runs k))) (sym is)
     (have-each lanes s (with_lane runs lane (record (runs lane) { dead = on }))
     (λ k. one (Dead lane on) k (runs k))
     (λ k. pick (k == lane) (record (runs lane) { dead = on }) (record (runs k) { dead = on })
@@ -340,8 +340,8 @@ died lanes s runs lane on what is run =
 
 -- these events were done to the lanes
 pub record HasApplied (old new : List Pair) (es : List Event) : Type 0 where
-  pub goes_on : (s : Plan) (runs : ℕ → LaneRun) → HaveRun old s runs
-      → HaveRun new s (λ lane. after es lane (runs lane))
+  pub goes_on : (s : Plan) (runs : ℕ → LaneRun) → HaveRunLanes old s runs
+      → HaveRunLanes new s (λ lane. after es lane (runs lane))
   pub at : (p : Params) (next : Option ℕ) → AreAt old p next → AreAt new p next
   pub count : length new ≡ length old
 
@@ -349,8 +349,8 @@ pub applied-none : (lanes : List Pair) → HasApplied lanes lanes []
 applied-none lanes = record { goes_on = λ s runs run. run; at = λ p next are. are; count = refl }
 
 pub applied-more : (old mid new : List Pair) (xs : List Event) (i : ℕ) (d : Event) → i < length xs
-    → ((s : Plan) (runs : ℕ → LaneRun) → HaveRun mid s runs
-    → HaveRun new s (λ lane. one (get_or xs i d).what lane (runs lane)))
+    → ((s : Plan) (runs : ℕ → LaneRun) → HaveRunLanes mid s runs
+    → HaveRunLanes new s (λ lane. one (get_or xs i d).what lane (runs lane)))
     → ((p : Params) (next : Option ℕ) → AreAt mid p next → AreAt new p next)
     → length new ≡ length mid
     → HasApplied old mid (take i xs) → HasApplied old new (take (i + 1) xs)

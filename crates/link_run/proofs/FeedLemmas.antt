@@ -11,8 +11,7 @@ use Rattle.std.proofs.lemmas.Nat.{pow_pos}
 use Rattle.link_params.specs.declared.fields.Params.{Params}
 use Rattle.link_params.specs.Links.{Link}
 use Rattle.link_params.specs.Laws.{broken_law}
-use Rattle.sample_map.specs.Layout.{IsFrame}
-use Rattle.sample_map.specs.LayoutLaws.{FitFrame}
+use Rattle.sample_map.specs.Layout.{IsFrame, FitFrame}
 use Rattle.sample_map.specs.Frames.{OneFrame, frame_of}
 use Rattle.scenario.specs.declared.input.Input.{Input}
 use Rattle.scenario.specs.declared.input.Input.TheVariants as input

@@ -18,9 +18,9 @@ use Rattle.scenario.specs.Plans.{numbers_from}
 use Rattle.sample_map.specs.Frames.{words_of}
 use Rattle.link_model.proofs.NumberLists.{length-numbers, map-numbers}
 use Rattle.link_model.proofs.WholeFrames.{cells-stay, first-columns-more, first_columns, octet-is, octet_column, div-le, whole-part, whole-parts-more}
-use Rattle.link_model.specs.Before.{Columns, cell_at, cells_of, mark_of, no_cell, octet_columns, values_of}
+use Rattle.link_model.specs.kept.Before.{Columns, cell_at, cells_of, mark_of, no_cell, octet_columns, values_of}
 use Rattle.link_run.proofs.Marks.{IsWorst, get_or-cells, lane-lt, length-cells, mark_of-cells, some-of-product, worst_more, worst_same, worst_unique}
-use Rattle.link_run.specs.Gathered.{FramesAre, Gathering, GathersOn, HasFinished, HasGathered, HasPut, Whole, octet_at, whole_of}
+use Rattle.link_run.specs.kept.Gathered.{FramesAre, Gathering, GathersOn, HasFinished, HasGathered, HasPut, Whole, octet_at, whole_of}
 
 -- m octets of each lane are there, with this mark
 record IsPart (p : Params) (m : ℕ) (cell : ℕ → ℕ → LaneCell) (mark : Mark)

@@ -21,15 +21,15 @@ use Rattle.link_model.proofs.KindFacts.{lead}
 use Rattle.link_model.proofs.LaneHistory.{HasHunt, lane-run-next}
 use Rattle.link_model.proofs.NumberLists.{get_or-numbers, length-numbers, map-numbers}
 use Rattle.link_model.proofs.WholeFrames.{delivered-by-place}
-use Rattle.link_model.specs.Before.{Columns, delivered_at, octet_columns}
+use Rattle.link_model.specs.kept.Before.{Columns, delivered_at, octet_columns}
 use Rattle.link_model.specs.Gives.{gives_in}
 use Rattle.link_model.specs.Hunts.{session}
 use Rattle.link_model.specs.Kinds.{kind_of, moment_of}
-use Rattle.link_model.specs.LaneRuns.{LaneRun, lane_run, lane_stepped}
+use Rattle.link_model.specs.kept.LaneRuns.{LaneRun, lane_run, lane_stepped}
 use Rattle.link_model.specs.Moments.{Delivered, History}
 use Rattle.link_run.proofs.RunFacts.{IsRunOf}
-use Rattle.link_run.specs.Gathered.{FramesAre, Gathering, HasGathered, Whole, delivered_of, no_frame, whole_of}
-use Rattle.link_run.specs.LinkStates.{columns_left, columns_of}
+use Rattle.link_run.specs.kept.Gathered.{FramesAre, Gathering, HasGathered, Whole, delivered_of, no_frame, whole_of}
+use Rattle.link_run.specs.kept.LinkStates.{columns_left, columns_of}
 
 and-false : (a : Bool) → (a && false) ≡ false
 and-false true = refl

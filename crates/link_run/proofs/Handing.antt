@@ -12,7 +12,7 @@ use Rattle.scenario.specs.declared.scenario_type.Scenario.{Scenario}
 use Rattle.scenario.specs.Plans.{Plan, numbers_from, plan_of, source_frame}
 use Rattle.link_model.specs.Sends.{beginnings, begins_frame, handed_to, octet_of}
 use Rattle.link_model.proofs.NumberLists.{get_or-numbers, length-numbers, map-numbers, numbers-more}
-use Rattle.link_run.specs.Seen.{Fed, HasFed, with_octet}
+use Rattle.link_run.specs.kept.Seen.{Fed, HasFed, with_octet}
 
 -- ---- one octet more for each lane
 

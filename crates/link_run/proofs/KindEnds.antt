@@ -12,16 +12,16 @@ use Rattle.link_params.specs.Lanes.{Handed, Held, Taken}
 use Rattle.link_params.specs.Laws.{is_b}
 use Rattle.link_params.specs.Numbers.{width}
 use Rattle.lane_b.specs.Received.{entries_b, report_b}
-use Rattle.lane_b.specs.Senders.{Follows as FollowsB, next_place as next_place_b}
+use Rattle.lane_b.specs.kept.Senders.{Follows as FollowsB, place_after_order as next_place_b}
 use Rattle.lane_b.specs.Sent.{sent_b, sent_words}
 use Rattle.lane_c.specs.Received.{entries_c, report_c}
-use Rattle.lane_c.specs.Senders.{Follows as FollowsC, next_place as next_place_c}
+use Rattle.lane_c.specs.kept.Senders.{Follows as FollowsC, place_after_order as next_place_c}
 use Rattle.lane_c.specs.Sent.{sent_c}
 use Rattle.link_model.specs.Kinds.{kind_of}
 use Rattle.link_run.specs.declared.rx_lane.RxLane.{RxLane}
 use Rattle.link_run.specs.declared.rx_lane.RxLane.TheVariants as rx
-use Rattle.link_run.specs.LaneEnds.{HasTaken, buffer_in}
-use Rattle.link_run.specs.Sendings.{next_after}
+use Rattle.link_run.specs.kept.LaneEnds.{HasTaken, buffer_in}
+use Rattle.link_run.specs.kept.Sendings.{next_after}
 
 -- ---- the mode of a kind
 

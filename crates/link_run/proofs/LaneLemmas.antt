@@ -10,18 +10,18 @@ use Rattle.link_params.specs.declared.orders.RxOrder.{RxOrder}
 use Rattle.link_params.specs.declared.lane_report.LaneReport.{LaneReport}
 use Rattle.link_params.specs.declared.cells.LaneCell.{LaneCell}
 use Rattle.link_params.specs.Lanes.{Placed}
-use Rattle.lane_b.specs.Gives.{given}
-use Rattle.lane_c.specs.Receivers.{IsArmedOn}
+use Rattle.lane_b.specs.kept.Gives.{given}
+use Rattle.lane_c.specs.kept.Receivers.{IsArmedOn}
 use Rattle.link_params.specs.Links.{Link}
 use Rattle.link_params.specs.Numbers.{width}
 use Rattle.scenario.specs.declared.plan.Flip.{Flip}
 use Rattle.scenario.specs.Limits.{flip_fits}
 use Rattle.scenario.specs.Plans.{Plan, numbers_from}
 use Rattle.link_model.specs.Kinds.{kind_of}
-use Rattle.link_model.specs.LaneRuns.{LaneRun, held_by, no_run, stepped}
-use Rattle.link_run.specs.LaneEnds.{buffer_in, next_in, params_in}
-use Rattle.link_run.specs.LaneRuns.{AreAt, HasRunLane, HaveRun, Pair}
-use Rattle.link_run.specs.Sendings.{next_after}
+use Rattle.link_model.specs.kept.LaneRuns.{LaneRun, held_by, no_run, stepped}
+use Rattle.link_run.specs.kept.LaneEnds.{buffer_in, next_in, params_in}
+use Rattle.link_run.specs.kept.LaneRuns.{AreAt, HasRunLane, HaveRunLanes, Pair}
+use Rattle.link_run.specs.kept.Sendings.{next_after}
 use Rattle.link_run.proofs.KindEnds.{buffer-count}
 
 -- the first n lanes have changed as R says of a lane before and after, and the others are as they
@@ -72,7 +72,7 @@ pub have-run-below : (R : ℕ → Pair → Pair → Type 0) (old new : List Pair
     (runs next : ℕ → LaneRun) → HaveChanged R old new n → length new ≤ n
     → ((k : ℕ) (x y : Pair) → k < s.link.params.l → R k x y → HasRunLane x s k (runs k)
     → HasRunLane y s k (next k))
-    → HaveRun old s runs → HaveRun new s next
+    → HaveRunLanes old s runs → HaveRunLanes new s next
 have-run-below R old new n s runs next h all step run =
     let same = h.count in
     let count = run.0 in (
@@ -84,7 +84,7 @@ have-run-below R old new n s runs next h all step run =
 pub have-run : (R : ℕ → Pair → Pair → Type 0) (old new : List Pair) (n : ℕ) (s : Plan)
     (runs next : ℕ → LaneRun) → HaveChanged R old new n → length new ≤ n
     → ((k : ℕ) (x y : Pair) → R k x y → HasRunLane x s k (runs k) → HasRunLane y s k (next k))
-    → HaveRun old s runs → HaveRun new s next
+    → HaveRunLanes old s runs → HaveRunLanes new s next
 have-run R old new n s runs next h all step run =
     have-run-below R old new n s runs next h all (λ k x y below. step k x y) run
 
@@ -142,7 +142,7 @@ head-of (x ∷ xs) some = x
 
 pub all-written : {A : Type 0} (W : ℕ → Pair → A → Type 0) (lanes : List Pair) (out : List A)
     (n : ℕ) (s : Plan) (runs : ℕ → LaneRun) (f : ℕ → A)
-    → AreWritten W lanes out n → length lanes ≤ n → length out ≡ length lanes → HaveRun lanes s runs
+    → AreWritten W lanes out n → length lanes ≤ n → length out ≡ length lanes → HaveRunLanes lanes s runs
     → ((k : ℕ) (x : Pair) (y : A) → W k x y → HasRunLane x s k (runs k) → y ≡ f k)
     → out ≡ map f (numbers_from 0 s.link.params.l)
 all-written W lanes out n s runs f h all len run is =
@@ -165,7 +165,7 @@ held-more lanes n most d below =
     ap (fold max most) (map_more held_in lanes n d below)
     ∙ fold_push max most (map held_in (take n lanes)) (held_in (get_or lanes n d))
 
-pub all-held : (lanes : List Pair) (s : Plan) (runs : ℕ → LaneRun) → HaveRun lanes s runs
+pub all-held : (lanes : List Pair) (s : Plan) (runs : ℕ → LaneRun) → HaveRunLanes lanes s runs
     → map held_in lanes ≡ map (held_by (kind_of s.link.params) s runs)
     (numbers_from 0 s.link.params.l)
 all-held lanes s runs run =

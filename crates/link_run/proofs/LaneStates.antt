@@ -5,17 +5,17 @@ use Rattle.link_params.specs.Links.{Link}
 use Rattle.scenario.specs.declared.scenario_type.Scenario.{Scenario}
 use Rattle.scenario.specs.Plans.{Plan, plan_of}
 use Rattle.link_model.proofs.LaneHistory.{ready-handed, same-runs}
-use Rattle.link_model.specs.Before.{dead_before, delay_before}
+use Rattle.link_model.specs.kept.Before.{dead_before, delay_before}
 use Rattle.link_model.specs.Edges.{is_reset}
-use Rattle.link_model.specs.LaneRuns.{LaneRun, lane_ready, lane_run}
+use Rattle.link_model.specs.kept.LaneRuns.{LaneRun, lane_ready, lane_run}
 use Rattle.link_model.specs.Moments.{History}
 use Rattle.link_run.proofs.FeedLemmas.{some_plan}
 use Rattle.link_run.proofs.PlanFacts.{plan-facts}
-use Rattle.link_run.specs.Happened.{AreAsBefore, as_of}
-use Rattle.link_run.specs.LaneRuns.{HasRunLane, HaveRun, Pair}
+use Rattle.link_run.specs.kept.Happened.{AreAsBefore, as_of}
+use Rattle.link_run.specs.kept.LaneRuns.{HasRunLane, HaveRunLanes, Pair}
 
 pub have-same : (now : List Pair) (s : Plan) (f g : ℕ → LaneRun)
-    → ((lane : ℕ) → lane < s.link.params.l → f lane ≡ g lane) → HaveRun now s f → HaveRun now s g
+    → ((lane : ℕ) → lane < s.link.params.l → f lane ≡ g lane) → HaveRunLanes now s f → HaveRunLanes now s g
 have-same now s f g same h = (
   h.0,
   λ lane d below. subst (HasRunLane (get_or now lane d) s lane) (same lane below)

@@ -10,7 +10,7 @@ use Rattle.link_params.specs.declared.cells.Mark.{Mark}
 use Rattle.link_params.specs.declared.cells.Mark.TheVariants.{Ok as Good, Fixed, Bad}
 use Rattle.link_params.specs.Lanes.{worse}
 use Rattle.scenario.specs.Plans.{numbers_from}
-use Rattle.link_model.specs.Before.{mark_of, no_cell}
+use Rattle.link_model.specs.kept.Before.{mark_of, no_cell}
 
 -- how bad a mark is
 abbrev pub rank : Mark → ℕ

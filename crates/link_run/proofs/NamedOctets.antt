@@ -17,14 +17,15 @@ use Rattle.link_params.specs.Numbers.{period}
 use Rattle.code_8b10b.specs.declared.character.Reading.{Reading}
 use Rattle.code_8b10b.specs.declared.character.Reading.TheVariants.{Char as Read, Disparity, Invalid}
 use Rattle.ilas.specs.Sequence.{ilas_char}
-use Rattle.ilas.specs.Checked.{cause_at, config_cause, config_read, fault_or, first_fault, ilas_state, is_allowed, octet_of_char}
+use Rattle.ilas.specs.Checked.{cause_at, config_cause, config_read, fault_or, first_fault, ilas_state, is_allowed}
 use Rattle.lane_b.specs.Locking.{Lock, lock, since_start}
 use Rattle.lane_b.specs.Received.{lanes_b, report_b, report_of}
 use Rattle.multiblock.specs.Places.{Place}
 use Rattle.lane_c.specs.Locking.{place}
 use Rattle.lane_c.specs.Received.{lanes_c, report_c, report_of as placed}
 use Rattle.link_model.specs.Kinds.{kind_of}
-use Rattle.bring_up.specs.Controls.{NamesOctet}
+use Rattle.bring_up.specs.kept.Controls.{NamesOctet}
+use Rattle.code_8b10b.specs.Reads.{octet_of_char}
 
 -- a cause Config comes from a configuration octet that is not the last one
 from-place : (allowed inside : Bool) (cause : Option IlasCause)

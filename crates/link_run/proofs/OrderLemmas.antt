@@ -9,7 +9,7 @@ use Rattle.link_params.specs.Numbers.{period}
 use Rattle.link_run.specs.declared.alignment.Alignment.TheVariants.{Idle, Synchronizing, Aligning, Streaming}
 use Rattle.link_model.proofs.OrderLemmas.{after_low-low, after_low-none, after_low-some, comma, from_boundary-first, from_boundary-none, later_order, next_in_data, place_in_data, place_in_sequence, since-empty, since-more, since-of, since-start}
 use Rattle.link_model.specs.Orders.{Observed, is_boundary, since_boundary, tx_order}
-use Rattle.link_run.specs.Alignments.{GoesOnTo, HasObserved}
+use Rattle.link_run.specs.kept.Alignments.{GoesOnTo, HasObserved}
 
 -- ---- ticks
 

@@ -9,14 +9,14 @@ use Rattle.link_params.specs.declared.orders.RxOrder.{RxOrder}
 use Rattle.link_params.specs.Numbers.{depth, width}
 use Rattle.link_params.specs.Lanes.{Taken}
 use Rattle.line_model.specs.LineBits.{line_word}
-use Rattle.line_model.specs.Lines.{HasCarried}
+use Rattle.line_model.specs.kept.Lines.{HasCarried}
 use Rattle.scenario.specs.Plans.{Plan}
 use Rattle.link_model.specs.Kinds.{kind_of}
-use Rattle.link_model.specs.LaneRuns.{LaneRun, bits_with, handed_with, stepped, word_with}
+use Rattle.link_model.specs.kept.LaneRuns.{LaneRun, bits_with, handed_with, stepped, word_with}
 use Rattle.link_model.specs.Sends.{last_of}
 use Rattle.link_run.specs.declared.rx_lane.RxLane.{RxLane}
-use Rattle.link_run.specs.LaneEnds.{HasSent, HasTaken, buffer_in}
-use Rattle.link_run.specs.LaneRuns.{HasRunLane, Pair, settings}
+use Rattle.link_run.specs.kept.LaneEnds.{HasSent, HasTaken, buffer_in}
+use Rattle.link_run.specs.kept.LaneRuns.{HasRunLane, Pair, settings}
 
 last_of-push : (xs : List (List Bool)) (d x : List Bool) → last_of d (xs ++ x ∷ []) ≡ x
 unfolding last_of

@@ -6,7 +6,7 @@ use Rattle.scenario.specs.declared.scenario_type.Scenario.{Scenario}
 use Rattle.scenario.specs.Plans.{Plan, plan_with}
 use Rattle.scenario.specs.ReportLines.{line_of}
 use Rattle.link_model.specs.Report.{Printed, lines}
-use Rattle.link_run.specs.Printing.{HasPrinted, Printing}
+use Rattle.link_run.specs.kept.Printing.{HasPrinted, Printing}
 
 -- a row more is its line more
 lines_more : (s : Plan) (rows : List Printed) (x : Printed)

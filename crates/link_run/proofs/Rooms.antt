@@ -10,11 +10,11 @@ use Rattle.link_model.proofs.Depth.{has-entry, has-room}
 use Rattle.link_model.proofs.FactsOf.{facts-of}
 use Rattle.link_model.proofs.LaneHistory.{has-hunt-run, took-stepped}
 use Rattle.link_model.specs.Kinds.{kind_of, moment_of, run_of}
-use Rattle.link_model.specs.LaneRuns.{lane_ready, lane_stepped}
+use Rattle.link_model.specs.kept.LaneRuns.{lane_ready, lane_stepped}
 use Rattle.link_model.specs.Moments.{History}
 use Rattle.link_model.specs.Receives.{told_of}
 use Rattle.link_run.proofs.KindEnds.{buffer-count}
-use Rattle.link_run.specs.LaneRuns.{HaveRun, HaveEntries, HaveRoom, Pair}
+use Rattle.link_run.specs.kept.LaneRuns.{HaveRunLanes, HaveEntries, HaveRoom, Pair}
 
 -- the link is legal
 pub record IsGood (k : Link) : Type 0 where
@@ -23,7 +23,7 @@ pub record IsGood (k : Link) : Type 0 where
 
 -- each lane that is ready has room, where no hunt begins
 pub ready-room : (lanes : List Pair) (s : Plan) (t : ℕ) → IsGood s.link
-    → HaveRun lanes s (λ l. lane_ready s (run_of s t) l)
+    → HaveRunLanes lanes s (λ l. lane_ready s (run_of s t) l)
     → (told_of s (run_of s t)).hunt ≡ false → HaveRoom lanes
 ready-room lanes s t good ran goes lane d below =
     let p = s.link.params in
@@ -36,7 +36,7 @@ ready-room lanes s t good ran goes lane d below =
 
 -- each lane that was stepped holds an entry, where the link is released
 pub stepped-entry : (lanes : List Pair) (s : Plan) (t : ℕ) → IsGood s.link
-    → HaveRun lanes s (λ l. lane_stepped (kind_of s.link.params) s (run_of s t) l)
+    → HaveRunLanes lanes s (λ l. lane_stepped (kind_of s.link.params) s (run_of s t) l)
     → (moment_of s (run_of s t)).stage ≡ stage.Run → HaveEntries lanes
 stepped-entry lanes s t good ran runs lane d below =
     let p = s.link.params in

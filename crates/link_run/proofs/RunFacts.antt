@@ -18,7 +18,7 @@ use Rattle.link_model.proofs.WindowFacts.{IsLegal, legal}
 use Rattle.link_model.specs.Gives.{gives_in}
 use Rattle.link_model.specs.Hunts.{session}
 use Rattle.link_model.specs.Kinds.{kind_of, run_of}
-use Rattle.link_model.specs.LaneRuns.{held_by, lane_stepped}
+use Rattle.link_model.specs.kept.LaneRuns.{held_by, lane_stepped}
 use Rattle.link_model.specs.Moments.{History}
 
 -- the premises of the lemmas on a tick

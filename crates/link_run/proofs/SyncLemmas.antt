@@ -1,7 +1,7 @@
 -- The levels of SYNC~ that wait.
 use Rattle.std.proofs.Common.{◌≡◌, ℕ, suc, ◌+◌, ◌-◌, ◌<◌, Bool, true, List, [], ◌∷◌, ◌++◌, length, replicate, drop, get_or, sym, ap, ◌∙◌, add-one, append_assoc, length-append, length-drop, drop-cons, arith}
 use Rattle.std.proofs.lemmas.List.{length-replicate, drop-append-le}
-use Rattle.link_run.specs.Seen.{HasSynced}
+use Rattle.link_run.specs.kept.Seen.{HasSynced}
 
 -- all levels that were and will be seen
 abbrev pub levels : ℕ → List Bool → List Bool

@@ -21,19 +21,19 @@ use Rattle.link_model.proofs.RunTicks.{run-suc}
 use Rattle.link_model.proofs.TxHistory.{frames-before-more, length-more}
 use Rattle.link_model.specs.Edges.{is_reset}
 use Rattle.link_model.specs.Kinds.{kind_of, moment_of, run_of}
-use Rattle.link_model.specs.LaneRuns.{held_by, lane_ready, lane_stepped}
+use Rattle.link_model.specs.kept.LaneRuns.{held_by, lane_ready, lane_stepped}
 use Rattle.link_model.specs.Moments.{History}
 use Rattle.link_model.specs.Run.{run}
 use Rattle.link_model.specs.Sends.{beginnings, begins_frame, data_place, frames_before}
 use Rattle.link_run.proofs.GiveFacts.{with_tick}
 use Rattle.link_run.proofs.RunFacts.{held-lanes}
-use Rattle.link_run.specs.Gathered.{HasGathered}
-use Rattle.link_run.specs.Happened.{are_past}
-use Rattle.link_run.specs.LaneRuns.{AreAt, HaveRun}
-use Rattle.link_run.specs.LinkStates.{CanGive, CanStep, HasGiven, HasHappened, HasRun, HasStepped, LinkView, columns_left, columns_of}
-use Rattle.link_run.specs.ReceiverRuns.{HasReceivedRun, HasToldTick, IsToldTick, RxEnd}
-use Rattle.link_run.specs.Sendings.{next_of}
-use Rattle.link_run.specs.Transmitters.{HasSentRun, HasSentTick, IsSentTick, TxEnd}
+use Rattle.link_run.specs.kept.Gathered.{HasGathered}
+use Rattle.link_run.specs.kept.Happened.{are_past}
+use Rattle.link_run.specs.kept.LaneRuns.{AreAt, HaveRunLanes}
+use Rattle.link_run.specs.kept.LinkStates.{CanGive, CanStep, HasGiven, HasHappened, HasRun, HasStepped, LinkView, columns_left, columns_of}
+use Rattle.link_run.specs.kept.ReceiverRuns.{HasReceivedRun, HasToldTick, IsToldTick, RxEnd}
+use Rattle.link_run.specs.kept.Sendings.{next_of}
+use Rattle.link_run.specs.kept.Transmitters.{HasSentRun, HasSentTick, IsSentTick, TxEnd}
 
 -- ---- the frames that began
 
@@ -90,7 +90,7 @@ pub record IsBegun (x : Happened) (now : LinkView) (s : Plan) (h : History) : Ty
   pub next : now.next ≡ are_past s (length h + 1)
   pub tx : HasSentRun now.tx s h
   pub rx : HasReceivedRun now.rx s h
-  pub lanes : HaveRun now.lanes s (λ lane. lane_ready s h lane)
+  pub lanes : HaveRunLanes now.lanes s (λ lane. lane_ready s h lane)
   pub at : AreAt now.lanes s.link.params
       (if x.tx_reset then None else next_of s.link.params now.tx.sending)
   pub gathered : HasGathered now.gathering s.link.params (columns_of s h)
@@ -147,7 +147,7 @@ pub record IsCarried (now : LinkView) (s : Plan) (h : History) : Type 0 where
   pub next : now.next ≡ are_past s (length h + 1)
   pub tx : HasSentTick now.tx s h
   pub rx : HasToldTick now.rx s h
-  pub lanes : HaveRun now.lanes s (λ lane. lane_stepped (kind_of s.link.params) s h lane)
+  pub lanes : HaveRunLanes now.lanes s (λ lane. lane_stepped (kind_of s.link.params) s h lane)
   pub at : AreAt now.lanes s.link.params (next_of s.link.params now.tx.sending)
   pub gathered : HasGathered now.gathering s.link.params (columns_left s h)
   pub given : length now.given ≡ s.link.params.l

@@ -23,10 +23,11 @@ use Rattle.link_model.specs.Kinds.{kind_of, moment_of}
 use Rattle.link_model.specs.Moments.{Delivered, History}
 use Rattle.link_model.specs.Report.{Printed, alarms_from, bare, bares, decision_rows, enter_rows, frame_row, is_bad, is_fixed, is_ok, marks, off_alarm, off_alarms, prints_all, prints_frames, rows_of_tick, totals}
 use Rattle.link_model.specs.Sends.{begins_frame, frames_before}
-use Rattle.link_run.specs.Gathered.{Whole, delivered_of, no_frame}
-use Rattle.link_run.specs.Printing.{counted_mark, one_if}
-use Rattle.link_run.specs.Reported.{IsSeen, rows_so_far}
-use Rattle.link_run.specs.TickCounts.{entered_at, with_alarms, with_marks}
+use Rattle.link_run.specs.kept.Gathered.{Whole, delivered_of, no_frame}
+use Rattle.link_run.specs.kept.Printing.{counted_mark}
+use Rattle.link_run.specs.kept.Reported.{IsSeen, rows_so_far}
+use Rattle.link_run.specs.kept.TickCounts.{entered_at, with_alarms, with_marks}
+use Rattle.link_params.specs.Config.{one_if}
 
 -- the rows of some alarms
 abbrev pub alarm_rows : ℕ → List Alarm → List Printed

@@ -1,14 +1,1 @@
-pub mod Clocked
-pub mod Seen
-pub mod Alignments
-pub mod Sendings
-pub mod LaneEnds
-pub mod LaneRuns
-pub mod Gathered
-pub mod Printing
-pub mod Transmitters
-pub mod ReceiverRuns
-pub mod Happened
-pub mod TickCounts
-pub mod LinkStates
-pub mod Reported
+pub mod kept

@@ -3,10 +3,10 @@ ghost use Rattle.std.specs.Prelude.{◌≡◌, ◌≤◌, ◌<◌, ◌+◌, ◌%
 ghost use Rattle.link_params.specs.declared.fields.Params.{Params as ParamsValue};
 ghost use Rattle.link_params.specs.declared.fields.Mode.TheVariants.{B};
 ghost use Rattle.link_params.specs.Numbers.{period as period_of};
-ghost use Rattle.lane_b.specs.Senders.{Follows, next_place};
+ghost use Rattle.lane_b.specs.kept.Senders.{Follows, place_after_order};
 ghost use Rattle.link_model.specs.Orders.{Observed, tx_order};
 ghost use Rattle.link_model.specs.Sends.{data_place};
-ghost use Rattle.link_run.specs.Alignments.{GoesOnTo, HasObserved, next_of};
+ghost use Rattle.link_run.specs.kept.Alignments.{GoesOnTo, HasObserved, next_of};
 
 use link_params::TxOrder;
 
@@ -49,7 +49,7 @@ impl Alignment {
             → Follows p (next_of p self.old) result }
         ensures next { (p : ParamsValue) (observed : List Observed) → p.mode ≡ B
             → period_of p ≡ period → HasObserved self.old p observed
-            → next_of p self.new ≡ next_place p result }
+            → next_of p self.new ≡ place_after_order p result }
         ensures place { IfSome (data_place result) (λ x. x < period) }
     {
         if low {

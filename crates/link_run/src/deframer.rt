@@ -5,8 +5,8 @@ ghost use Rattle.link_params.specs.declared.cells.LaneCell.{LaneCell as CellValu
 ghost use Rattle.link_params.specs.declared.cells.Mark.TheVariants as mark;
 ghost use Rattle.link_params.specs.Laws.{broken_law};
 ghost use Rattle.link_params.specs.Numbers.{octets_per_tick};
-ghost use Rattle.link_model.specs.Before.{Columns, octet_columns};
-ghost use Rattle.link_run.specs.Gathered.{FramesAre, GathersOn, HasFinished, HasGathered, HasPut, HaveFrameSizes};
+ghost use Rattle.link_model.specs.kept.Before.{Columns, octet_columns};
+ghost use Rattle.link_run.specs.kept.Gathered.{FramesAre, GathersOn, HasFinished, HasGathered, HasPut, HaveFrameSizes};
 
 use crate::frame::Frame;
 use jesd_base::NoMemory;
@@ -33,7 +33,7 @@ pub struct Deframer {
 
 impl Model for Deframer {
     ghost use Rattle.std.specs.Prelude.{take};
-    ghost use Rattle.link_run.specs.Gathered.{Gathering, HasSizes};
+    ghost use Rattle.link_run.specs.kept.Gathered.{Gathering, HasSizes};
 
     ghost Value = { Gathering };
 

@@ -1,11 +1,11 @@
 //! The clock of a device over a run.
 ghost use Rattle.std.specs.Prelude.{◌≡◌, ◌≤◌, ◌<◌, ◌+◌, ◌*◌, ◌^◌, ℕ, Bool, if◌then◌else◌, List, [], All, IsTrue};
-ghost use Rattle.sysref_clock.specs.Ticks.{HasTicked};
+ghost use Rattle.sysref_clock.specs.kept.Ticks.{HasTicked};
 ghost use Rattle.scenario.specs.Limits.{jitter_fits};
 ghost use Rattle.scenario.specs.Plans.{Plan};
 ghost use Rattle.link_model.specs.Edges.{edge_tick, is_device, is_reset, jitter, off, phase, skew};
-ghost use Rattle.link_run.specs.Clocked.{HasRunTo};
-ghost use Rattle.link_model.specs.Before.{IsNear, IsPaced};
+ghost use Rattle.link_run.specs.kept.Clocked.{HasClocked};
+ghost use Rattle.link_model.specs.kept.Before.{IsNear, IsPaced};
 
 use link_params::{Device, Link, Timing};
 use scenario::Jitter;
@@ -25,8 +25,8 @@ pub struct DeviceClock {
 }
 
 impl Model for DeviceClock {
-    ghost use Rattle.link_run.specs.Clocked.{Clocking};
-    ghost use Rattle.link_model.specs.Before.{IsNear, IsPaced};
+    ghost use Rattle.link_run.specs.kept.Clocked.{Clocking};
+    ghost use Rattle.link_model.specs.kept.Before.{IsNear, IsPaced};
 
     ghost Value = { Clocking };
 
@@ -48,7 +48,7 @@ impl DeviceClock {
         requires { All (λ j. IsTrue (jitter_fits j)) jitters.now }
         ensures device { result.device ≡ device }
         ensures begins { (s : Plan) → s.link ≡ link.now → s.jitters ≡ jitters.now
-            → HasRunTo result s 0 }
+            → HasClocked result s 0 }
     {
         let period = link.shape().period();
         let _timing = link.timing();
@@ -66,12 +66,12 @@ impl DeviceClock {
     pub fn tick(&mut self, jitters: &[Jitter], t: u32, reset: bool) -> ClockTick
         requires tick { t < 1048576 }
         requires jitters { All (λ j. IsTrue (jitter_fits j)) jitters.now }
-        ensures answer { (s : Plan) → HasRunTo self.old s t → s.jitters ≡ jitters.now
+        ensures answer { (s : Plan) → HasClocked self.old s t → s.jitters ≡ jitters.now
             → reset ≡ is_reset s self.old.device t
             → result ≡ record { phase = phase s self.old.device t; off = off s self.old.device t } }
-        ensures goes_on { (s : Plan) → HasRunTo self.old s t → s.jitters ≡ jitters.now
+        ensures goes_on { (s : Plan) → HasClocked self.old s t → s.jitters ≡ jitters.now
             → reset ≡ is_reset s self.old.device t
-            → HasRunTo self.new s (t + 1) }
+            → HasClocked self.new s (t + 1) }
         ensures same { self.new.device ≡ self.old.device }
     {
         clear_if(&mut self.clock, reset);

@@ -9,9 +9,9 @@ ghost use Rattle.scenario.specs.Limits.{what_fits};
 ghost use Rattle.scenario.specs.Plans.{Plan, plan_of};
 ghost use Rattle.link_model.specs.Carried.{dead_after, delay_after};
 ghost use Rattle.link_model.specs.Edges.{is_reset, resets};
-ghost use Rattle.link_run.specs.LaneRuns.{AreAt, HaveRun};
-ghost use Rattle.link_model.specs.LaneRuns.{LaneRun};
-ghost use Rattle.link_run.specs.Happened.{AreAsBefore, are_past, as_of};
+ghost use Rattle.link_run.specs.kept.LaneRuns.{AreAt, HaveRunLanes};
+ghost use Rattle.link_model.specs.kept.LaneRuns.{LaneRun};
+ghost use Rattle.link_run.specs.kept.Happened.{AreAsBefore, are_past, as_of};
 
 use crate::happened::Happened;
 use crate::lanes::Lanes;
@@ -25,15 +25,15 @@ pub fn happen(s: &Scenario, lanes: &mut Lanes, from: usize, t: u32) -> Happened
     requires from { (plan : Plan) → plan_of s.now ≡ Some plan → from ≡ are_past plan t }
     requires lanes { length lanes.old ≡ s.now.shape.l }
     requires ran { (plan : Plan) → plan_of s.now ≡ Some plan
-        → (runs : ℕ → LaneRun) × HaveRun lanes.old plan runs × AreAsBefore plan t runs }
+        → (runs : ℕ → LaneRun) × HaveRunLanes lanes.old plan runs × AreAsBefore plan t runs }
     ensures tx { (plan : Plan) → plan_of s.now ≡ Some plan
         → result.tx_reset ≡ is_reset plan TxDevice t }
     ensures rx { (plan : Plan) → plan_of s.now ≡ Some plan
         → result.rx_reset ≡ is_reset plan RxDevice t }
     ensures next { (plan : Plan) → plan_of s.now ≡ Some plan → result.next ≡ are_past plan (t + 1) }
     ensures lanes { (plan : Plan) (runs : ℕ → LaneRun) → plan_of s.now ≡ Some plan
-        → HaveRun lanes.old plan runs → AreAsBefore plan t runs
-        → HaveRun lanes.new plan (λ lane. as_of plan t lane (runs lane)) }
+        → HaveRunLanes lanes.old plan runs → AreAsBefore plan t runs
+        → HaveRunLanes lanes.new plan (λ lane. as_of plan t lane (runs lane)) }
     ensures at { (p : ParamsValue) (next : Option ℕ) → AreAt lanes.old p next
         → AreAt lanes.new p next }
     ensures count { length lanes.new ≡ length lanes.old }
@@ -94,10 +94,10 @@ fn is_reset_of(what: What, device: Device) -> bool
 
 // Does to the lanes what these events say, one after the other.
 fn apply_all(lanes: &mut Lanes, events: &[Event])
-    requires ran { (s : Plan) × (runs : ℕ → LaneRun) × HaveRun lanes.old s runs
+    requires ran { (s : Plan) × (runs : ℕ → LaneRun) × HaveRunLanes lanes.old s runs
         × All (λ (e : EventValue). IsTrue (what_fits s.link.params e.what)) events.now }
-    ensures goes_on { (s : Plan) (runs : ℕ → LaneRun) → HaveRun lanes.old s runs
-        → HaveRun lanes.new s (λ lane. record (runs lane) {
+    ensures goes_on { (s : Plan) (runs : ℕ → LaneRun) → HaveRunLanes lanes.old s runs
+        → HaveRunLanes lanes.new s (λ lane. record (runs lane) {
           delay = fold (λ d (e : EventValue). delay_after lane d e.what) (runs lane).delay events.now;
           dead = fold (λ d (e : EventValue). dead_after lane d e.what) (runs lane).dead events.now;
         }) }
@@ -112,10 +112,10 @@ fn apply_all(lanes: &mut Lanes, events: &[Event])
 
 // Does to the lanes what one event says.
 fn apply(lanes: &mut Lanes, what: What)
-    requires ran { (s : Plan) × (runs : ℕ → LaneRun) × HaveRun lanes.old s runs
+    requires ran { (s : Plan) × (runs : ℕ → LaneRun) × HaveRunLanes lanes.old s runs
         × IsTrue (what_fits s.link.params what) }
-    ensures goes_on { (s : Plan) (runs : ℕ → LaneRun) → HaveRun lanes.old s runs
-        → HaveRun lanes.new s (λ lane. record (runs lane) {
+    ensures goes_on { (s : Plan) (runs : ℕ → LaneRun) → HaveRunLanes lanes.old s runs
+        → HaveRunLanes lanes.new s (λ lane. record (runs lane) {
           delay = delay_after lane (runs lane).delay what;
           dead = dead_after lane (runs lane).dead what;
         }) }

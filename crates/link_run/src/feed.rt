@@ -4,7 +4,7 @@ ghost use Rattle.link_params.specs.Laws.{is_b};
 ghost use Rattle.sample_map.specs.Frames.{frame_of};
 ghost use Rattle.scenario.specs.Plans.{Plan, numbers_from, plan_of, source_frame};
 ghost use Rattle.link_model.specs.Sends.{beginnings, handed_to};
-ghost use Rattle.link_run.specs.Seen.{HasFed, with_octet};
+ghost use Rattle.link_run.specs.kept.Seen.{HasFed, with_octet};
 
 use jesd_base::NoMemory;
 use sample_map::{Layout, layout_laws};
@@ -26,7 +26,7 @@ pub struct Feed {
 }
 
 impl Model for Feed {
-    ghost use Rattle.link_run.specs.Seen.{Fed, HasFeedSizes};
+    ghost use Rattle.link_run.specs.kept.Seen.{Fed, HasFeedSizes};
 
     ghost Value = { Fed };
 

@@ -12,7 +12,7 @@ pub struct Frame {
 }
 
 impl Model for Frame {
-    ghost use Rattle.link_run.specs.Gathered.{Whole};
+    ghost use Rattle.link_run.specs.kept.Gathered.{Whole};
 
     ghost Value = { Whole };
 

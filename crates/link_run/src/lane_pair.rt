@@ -3,15 +3,15 @@ ghost use Rattle.std.specs.Prelude.{◌≡◌, ◌≤◌, ◌<◌, ◌+◌, ◌-
 ghost use Rattle.std.specs.List.Sorted.{IsStrictlyIncreasing};
 ghost use Rattle.link_params.specs.Lanes.{Placed};
 ghost use Rattle.link_params.specs.Numbers.{width};
-ghost use Rattle.lane_b.specs.Gives.{given};
-ghost use Rattle.lane_c.specs.Receivers.{IsArmedOn};
+ghost use Rattle.lane_b.specs.kept.Gives.{given};
+ghost use Rattle.lane_c.specs.kept.Receivers.{IsArmedOn};
 ghost use Rattle.scenario.specs.Plans.{Plan};
 ghost use Rattle.link_model.specs.Carried.{inverted_bits};
 ghost use Rattle.link_model.specs.Kinds.{kind_of};
-ghost use Rattle.link_model.specs.LaneRuns.{LaneRun, no_run, stepped};
-ghost use Rattle.link_run.specs.LaneEnds.{IsSmall, MayFollow, buffer_in, next_in, params_in, tx_width};
-ghost use Rattle.link_run.specs.LaneRuns.{HasRunLane};
-ghost use Rattle.link_run.specs.Sendings.{next_after};
+ghost use Rattle.link_model.specs.kept.LaneRuns.{LaneRun, no_run, stepped};
+ghost use Rattle.link_run.specs.kept.LaneEnds.{IsSmall, MayFollow, buffer_in, next_in, params_in, tx_width};
+ghost use Rattle.link_run.specs.kept.LaneRuns.{HasRunLane};
+ghost use Rattle.link_run.specs.kept.Sendings.{next_after};
 
 use crate::rx_lane::RxLane;
 use crate::tx_lane::TxLane;
@@ -30,7 +30,7 @@ pub struct LanePair {
 }
 
 impl Model for LanePair {
-    ghost use Rattle.link_run.specs.LaneRuns.{AreAlike, Pair};
+    ghost use Rattle.link_run.specs.kept.LaneRuns.{AreAlike, Pair};
 
     ghost Value = { Pair };
 

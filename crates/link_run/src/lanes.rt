@@ -3,12 +3,12 @@ ghost use Rattle.std.specs.Prelude.{◌≡◌, ◌≤◌, ◌<◌, ◌+◌, ℕ,
 ghost use Rattle.link_params.specs.declared.fields.Params.{Params as ParamsValue};
 ghost use Rattle.scenario.specs.Limits.{flip_fits};
 ghost use Rattle.scenario.specs.Plans.{Plan, numbers_from};
-ghost use Rattle.lane_c.specs.Receivers.{IsArmedOn};
+ghost use Rattle.lane_c.specs.kept.Receivers.{IsArmedOn};
 ghost use Rattle.link_model.specs.Kinds.{kind_of};
-ghost use Rattle.link_model.specs.LaneRuns.{LaneRun, given_by, held_by, no_run, stepped};
-ghost use Rattle.link_run.specs.LaneEnds.{IsSmall, MayFollow};
-ghost use Rattle.link_run.specs.LaneRuns.{AreAt, HaveEntries, HaveRoom, HaveRun, Pair, with_lane};
-ghost use Rattle.link_run.specs.Sendings.{next_after};
+ghost use Rattle.link_model.specs.kept.LaneRuns.{LaneRun, given_by, held_by, no_run, stepped};
+ghost use Rattle.link_run.specs.kept.LaneEnds.{IsSmall, MayFollow};
+ghost use Rattle.link_run.specs.kept.LaneRuns.{AreAt, HaveEntries, HaveRoom, HaveRunLanes, Pair, with_lane};
+ghost use Rattle.link_run.specs.kept.Sendings.{next_after};
 
 use crate::flips::inverted_bits;
 use crate::lane_pair::LanePair;
@@ -26,7 +26,7 @@ pub struct Lanes {
 
 impl Model for Lanes {
     ghost use Rattle.std.specs.Prelude.{◌≤◌, List, vec_len};
-    ghost use Rattle.link_run.specs.LaneRuns.{Pair};
+    ghost use Rattle.link_run.specs.kept.LaneRuns.{Pair};
 
     ghost Value = { List Pair };
 
@@ -41,7 +41,7 @@ impl Lanes {
         requires ticks { ticks ≤ 1048576 }
         requires flips { All (λ f. IsTrue (flip_fits link.now.params ticks f)) flips.now }
         ensures begins { (s : Plan) → s.link ≡ link.now → s.flips ≡ flips.now → s.ticks ≡ ticks
-            → IfOk result (λ l. HaveRun l s (λ lane. no_run s)) }
+            → IfOk result (λ l. HaveRunLanes l s (λ lane. no_run s)) }
         ensures at { IfOk result (λ l. AreAt l link.now.params None) }
         ensures lanes { IfOk result (λ l. length l ≡ link.now.params.l) }
     {
@@ -65,10 +65,10 @@ impl Lanes {
             → IsSmall (get_or self.old lane d).tx (slice_index handed.now lane) }
         requires room { told.now.hunt ≡ false → HaveRoom self.old }
         requires lanes { length self.old ≤ length handed.now }
-        ensures goes_on { (s : Plan) (runs : ℕ → LaneRun) → HaveRun self.old s runs
+        ensures goes_on { (s : Plan) (runs : ℕ → LaneRun) → HaveRunLanes self.old s runs
             → (told.now.hunt ≡ false
             → (lane : ℕ) → lane < s.link.params.l → IsArmedOn (runs lane).taken told.now)
-            → HaveRun self.new s (λ lane. stepped (kind_of s.link.params) s lane (runs lane) order (slice_index handed.now lane) told.now) }
+            → HaveRunLanes self.new s (λ lane. stepped (kind_of s.link.params) s lane (runs lane) order (slice_index handed.now lane) told.now) }
         ensures at { (p : ParamsValue) (next : Option ℕ) → AreAt self.old p next
             → AreAt self.new p (next_after p order) }
         ensures lanes { length self.new ≡ length self.old }
@@ -81,7 +81,7 @@ impl Lanes {
     /// Writes the report of each lane.
     pub fn report(&self, reports: &mut [LaneReport])
         requires { length reports.old ≡ length self.now }
-        ensures { (s : Plan) (runs : ℕ → LaneRun) → HaveRun self.now s runs
+        ensures { (s : Plan) (runs : ℕ → LaneRun) → HaveRunLanes self.now s runs
             → reports.new ≡ map (λ lane. (kind_of s.link.params).report s.link.params s.link.timing lane (runs lane).taken) (numbers_from 0 s.link.params.l) }
     {
         for lane in 0..self.pairs.as_slice().len() {
@@ -91,7 +91,7 @@ impl Lanes {
 
     /// The most entries that any lane holds, or `most` where that is more.
     pub fn fullest(&self, most: u32) -> u32
-        ensures { (s : Plan) (runs : ℕ → LaneRun) → HaveRun self.now s runs
+        ensures { (s : Plan) (runs : ℕ → LaneRun) → HaveRunLanes self.now s runs
             → result ≡ fold max most (map (held_by (kind_of s.link.params) s runs) (numbers_from 0 s.link.params.l)) }
     {
         let mut most = most;
@@ -105,10 +105,10 @@ impl Lanes {
     pub fn give(&mut self, given: &mut [Option<LaneCell>])
         requires count { length given.old ≡ length self.old }
         requires entries { HaveEntries self.old }
-        ensures given { (s : Plan) (runs : ℕ → LaneRun) → HaveRun self.old s runs
+        ensures given { (s : Plan) (runs : ℕ → LaneRun) → HaveRunLanes self.old s runs
             → given.new ≡ map (given_by (kind_of s.link.params) s runs) (numbers_from 0 s.link.params.l) }
-        ensures goes_on { (s : Plan) (runs : ℕ → LaneRun) → HaveRun self.old s runs
-            → HaveRun self.new s (λ lane. record (runs lane) { gave = (runs lane).gave + 1 }) }
+        ensures goes_on { (s : Plan) (runs : ℕ → LaneRun) → HaveRunLanes self.old s runs
+            → HaveRunLanes self.new s (λ lane. record (runs lane) { gave = (runs lane).gave + 1 }) }
         ensures at { (p : ParamsValue) (next : Option ℕ) → AreAt self.old p next
             → AreAt self.new p next }
         ensures lanes { length self.new ≡ length self.old }
@@ -120,8 +120,8 @@ impl Lanes {
 
     /// A reset of the transmitter.
     pub fn clear_tx(&mut self)
-        ensures goes_on { (s : Plan) (runs : ℕ → LaneRun) → HaveRun self.old s runs
-            → HaveRun self.new s (λ lane. record (runs lane) { handed = [] }) }
+        ensures goes_on { (s : Plan) (runs : ℕ → LaneRun) → HaveRunLanes self.old s runs
+            → HaveRunLanes self.new s (λ lane. record (runs lane) { handed = [] }) }
         ensures at { (p : ParamsValue) (next : Option ℕ) → AreAt self.old p next
             → AreAt self.new p None }
         ensures lanes { length self.new ≡ length self.old }
@@ -135,8 +135,8 @@ impl Lanes {
     pub fn set_delay(&mut self, lane: u32, bits: u32)
         requires lane { lane < length self.old }
         requires bits { (d : Pair) → bits ≤ (get_or self.old lane d).line.set.reach }
-        ensures goes_on { (s : Plan) (runs : ℕ → LaneRun) → HaveRun self.old s runs
-            → HaveRun self.new s (with_lane runs lane (record (runs lane) { delay = bits })) }
+        ensures goes_on { (s : Plan) (runs : ℕ → LaneRun) → HaveRunLanes self.old s runs
+            → HaveRunLanes self.new s (with_lane runs lane (record (runs lane) { delay = bits })) }
         ensures at { (p : ParamsValue) (next : Option ℕ) → AreAt self.old p next
             → AreAt self.new p next }
         ensures lanes { length self.new ≡ length self.old }
@@ -147,8 +147,8 @@ impl Lanes {
     /// From this tick on a lane is dead, or alive.
     pub fn set_dead(&mut self, lane: u32, dead: bool)
         requires { lane < length self.old }
-        ensures goes_on { (s : Plan) (runs : ℕ → LaneRun) → HaveRun self.old s runs
-            → HaveRun self.new s (with_lane runs lane (record (runs lane) { dead = dead })) }
+        ensures goes_on { (s : Plan) (runs : ℕ → LaneRun) → HaveRunLanes self.old s runs
+            → HaveRunLanes self.new s (with_lane runs lane (record (runs lane) { dead = dead })) }
         ensures at { (p : ParamsValue) (next : Option ℕ) → AreAt self.old p next
             → AreAt self.new p next }
         ensures lanes { length self.new ≡ length self.old }

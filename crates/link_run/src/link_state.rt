@@ -6,12 +6,12 @@ ghost use Rattle.bring_up.specs.declared.stage.Stage.TheVariants as stage;
 ghost use Rattle.bring_up.specs.Decisions.{is_hunting};
 ghost use Rattle.scenario.specs.Plans.{Plan, plan_of};
 ghost use Rattle.link_model.specs.Kinds.{run_of};
-ghost use Rattle.link_model.specs.Before.{Columns};
-ghost use Rattle.link_run.specs.Gathered.{HasGathered, Whole};
-ghost use Rattle.link_run.specs.LaneRuns.{AreAt, HaveRun};
-ghost use Rattle.link_model.specs.LaneRuns.{LaneRun};
-ghost use Rattle.link_run.specs.LinkStates.{CanGive, CanStep, HasGiven, HasHappened, HasRun, HasStepped};
-ghost use Rattle.link_run.specs.Reported.{IsSeen};
+ghost use Rattle.link_model.specs.kept.Before.{Columns};
+ghost use Rattle.link_run.specs.kept.Gathered.{HasGathered, Whole};
+ghost use Rattle.link_run.specs.kept.LaneRuns.{AreAt, HaveRunLanes};
+ghost use Rattle.link_model.specs.kept.LaneRuns.{LaneRun};
+ghost use Rattle.link_run.specs.kept.LinkStates.{CanGive, CanStep, HasGiven, HasHappened, HasRun, HasStepped};
+ghost use Rattle.link_run.specs.kept.Reported.{IsSeen};
 
 use crate::deframer::Deframer;
 use crate::events::happen;
@@ -42,7 +42,7 @@ pub struct LinkState {
 
 impl Model for LinkState {
     ghost use Rattle.std.specs.Prelude.{◌≡◌};
-    ghost use Rattle.link_run.specs.LinkStates.{LinkView};
+    ghost use Rattle.link_run.specs.kept.LinkStates.{LinkView};
 
     ghost Value = { LinkView };
 
@@ -213,8 +213,8 @@ fn clear_frame(deframer: &mut Deframer, hunts: bool)
 }
 
 fn clear_if(lanes: &mut Lanes, reset: bool)
-    ensures goes_on { (s : Plan) (runs : ℕ → LaneRun) → HaveRun lanes.old s runs
-        → HaveRun lanes.new s (λ lane. record (runs lane) { handed = if reset then [] else (runs lane).handed }) }
+    ensures goes_on { (s : Plan) (runs : ℕ → LaneRun) → HaveRunLanes lanes.old s runs
+        → HaveRunLanes lanes.new s (λ lane. record (runs lane) { handed = if reset then [] else (runs lane).handed }) }
     ensures at { (p : ParamsValue) (next : Option ℕ) → AreAt lanes.old p next
         → AreAt lanes.new p (if reset then None else next) }
     ensures count { length lanes.new ≡ length lanes.old }

@@ -4,7 +4,7 @@ ghost use Rattle.link_params.specs.declared.fields.Params.{Params as ParamsValue
 ghost use Rattle.link_params.specs.declared.fields.Timing.{Timing as TimingValue};
 ghost use Rattle.link_params.specs.declared.lane_report.LaneReport.{LaneReport as ReportValue};
 ghost use Rattle.link_params.specs.declared.alarms.Device.TheVariants.{Rx as RxDevice};
-ghost use Rattle.bring_up.specs.Controls.{HasDecided};
+ghost use Rattle.bring_up.specs.kept.Controls.{HasDecided};
 ghost use Rattle.scenario.specs.Plans.{Plan, plan_of};
 ghost use Rattle.link_model.specs.Edges.{is_reset};
 ghost use Rattle.link_model.specs.Kinds.{kind_of, moment_of, run_of};
@@ -12,9 +12,9 @@ ghost use Rattle.link_model.specs.Moments.{History};
 ghost use Rattle.link_model.specs.Run.{is_at};
 ghost use Rattle.link_model.specs.Hunts.{is_hunt};
 ghost use Rattle.link_model.specs.Receives.{offset_at};
-ghost use Rattle.link_run.specs.LaneRuns.{HaveRun};
-ghost use Rattle.link_model.specs.LaneRuns.{lane_stepped};
-ghost use Rattle.link_run.specs.ReceiverRuns.{Decides, HasReceivedRun, HasToldTick, IsEnded, IsToldTick};
+ghost use Rattle.link_run.specs.kept.LaneRuns.{HaveRunLanes};
+ghost use Rattle.link_model.specs.kept.LaneRuns.{lane_stepped};
+ghost use Rattle.link_run.specs.kept.ReceiverRuns.{Decides, HasReceivedRun, HasToldTick, IsEnded, IsToldTick};
 
 use crate::device_clock::DeviceClock;
 use crate::lanes::Lanes;
@@ -38,7 +38,7 @@ pub struct Receiver {
 }
 
 impl Model for Receiver {
-    ghost use Rattle.link_run.specs.ReceiverRuns.{RxEnd};
+    ghost use Rattle.link_run.specs.kept.ReceiverRuns.{RxEnd};
 
     ghost Value = { RxEnd };
 
@@ -104,7 +104,7 @@ impl Receiver {
         requires told { (plan : Plan) → plan_of s.now ≡ Some plan
             → HasToldTick self.old plan (run_of plan t) }
         requires lanes { (plan : Plan) → plan_of s.now ≡ Some plan
-            → HaveRun lanes.now plan (lane_stepped (kind_of plan.link.params) plan (run_of plan t)) }
+            → HaveRunLanes lanes.now plan (lane_stepped (kind_of plan.link.params) plan (run_of plan t)) }
         ensures { (plan : Plan) → plan_of s.now ≡ Some plan
             → decides ≡ (moment_of plan (run_of plan t)).decides
             → IsEnded result self.new plan (run_of plan t) }
@@ -124,7 +124,7 @@ impl Receiver {
         requires told { (plan : Plan) → plan_of s.now ≡ Some plan
             → HasToldTick self.old plan (run_of plan t) }
         requires lanes { (plan : Plan) → plan_of s.now ≡ Some plan
-            → HaveRun lanes.now plan (lane_stepped (kind_of plan.link.params) plan (run_of plan t)) }
+            → HaveRunLanes lanes.now plan (lane_stepped (kind_of plan.link.params) plan (run_of plan t)) }
         ensures { (plan : Plan) → plan_of s.now ≡ Some plan
             → Decides result self.old self.new plan (run_of plan t) }
     {

@@ -4,7 +4,7 @@ ghost use Rattle.scenario.specs.declared.report_row.Row.TheVariants as row;
 ghost use Rattle.scenario.specs.Limits.{has_words};
 ghost use Rattle.scenario.specs.Plans.{Plan, plan_of, source_frame};
 ghost use Rattle.link_model.specs.Report.{Printed, bare, prints_all, prints_frames};
-ghost use Rattle.link_run.specs.Printing.{HasPrinted, counted_mark};
+ghost use Rattle.link_run.specs.kept.Printing.{HasPrinted, counted_mark};
 
 use jesd_base::NoMemory;
 use link_params::{Alarm, Mark};
@@ -25,7 +25,7 @@ pub struct Report {
 
 impl Model for Report {
     ghost use Rattle.std.specs.Prelude.{length};
-    ghost use Rattle.link_run.specs.Printing.{Printing};
+    ghost use Rattle.link_run.specs.kept.Printing.{Printing};
 
     ghost Value = { Printing };
 

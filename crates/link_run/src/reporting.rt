@@ -6,10 +6,10 @@ ghost use Rattle.scenario.specs.Plans.{Plan, plan_of};
 ghost use Rattle.link_model.specs.Kinds.{moment_of};
 ghost use Rattle.link_model.specs.Moments.{History};
 ghost use Rattle.link_model.specs.Report.{Printed, bares, decision_rows, enter_rows, frame_row, off_alarm, prints_all, prints_frames};
-ghost use Rattle.link_run.specs.Gathered.{Whole, delivered_of};
-ghost use Rattle.link_run.specs.Printing.{HasPrinted};
-ghost use Rattle.link_run.specs.Reported.{AreFew, AreFewFrames, HasReported, IsSeen};
-ghost use Rattle.link_run.specs.TickCounts.{entered_at, with_alarms, with_marks};
+ghost use Rattle.link_run.specs.kept.Gathered.{Whole, delivered_of};
+ghost use Rattle.link_run.specs.kept.Printing.{HasPrinted};
+ghost use Rattle.link_run.specs.kept.Reported.{AreFew, AreFewFrames, HasReported, IsSeen};
+ghost use Rattle.link_run.specs.kept.TickCounts.{entered_at, with_alarms, with_marks};
 
 use crate::frame::Frame;
 use crate::report::Report;

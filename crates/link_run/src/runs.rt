@@ -1,10 +1,10 @@
 //! A run, tick by tick.
 ghost use Rattle.std.specs.Prelude.{◌≡◌, ◌<◌, ◌+◌, ◌*◌, IfOk, OnOk, IsTrue, is_some, Some, []};
 ghost use Rattle.scenario.specs.Plans.{Plan, plan_of};
-ghost use Rattle.link_run.specs.LinkStates.{HasRun};
+ghost use Rattle.link_run.specs.kept.LinkStates.{HasRun};
 ghost use Rattle.link_model.specs.Kinds.{report_of, run_of};
 ghost use Rattle.link_model.specs.Report.{totals};
-ghost use Rattle.link_run.specs.Reported.{AreFew, HasReported};
+ghost use Rattle.link_run.specs.kept.Reported.{AreFew, HasReported};
 
 use crate::link_state::LinkState;
 use crate::report::Report;

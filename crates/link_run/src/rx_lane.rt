@@ -1,14 +1,14 @@
 //! The receiver end of a lane of either kind.
 ghost use Rattle.std.specs.Prelude.{◌≡◌, ◌<◌, ◌+◌, ◌-◌, ◌++◌, ◌∷◌, ◌^◌, [], ℕ, List, true, false, length, get_or, IfOk};
 ghost use Rattle.jesd_base.specs.Bits.{bits as bits_of};
-ghost use Rattle.lane_b.specs.Gives.{given};
-ghost use Rattle.lane_c.specs.Receivers.{IsArmedOn};
+ghost use Rattle.lane_b.specs.kept.Gives.{given};
+ghost use Rattle.lane_c.specs.kept.Receivers.{IsArmedOn};
 ghost use Rattle.link_params.specs.declared.fields.Params.{Params as ParamsValue};
 ghost use Rattle.link_params.specs.declared.fields.Timing.{Timing as TimingValue};
 ghost use Rattle.link_params.specs.Lanes.{Placed, Taken};
 ghost use Rattle.link_params.specs.Numbers.{depth, width};
 ghost use Rattle.link_model.specs.Kinds.{kind_of};
-ghost use Rattle.link_run.specs.LaneEnds.{HasTaken, buffer_in, rx_width};
+ghost use Rattle.link_run.specs.kept.LaneEnds.{HasTaken, buffer_in, rx_width};
 
 use jesd_base::NoMemory;
 use lane_b::RxLaneB;

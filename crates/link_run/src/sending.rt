@@ -4,7 +4,7 @@ ghost use Rattle.link_params.specs.declared.fields.Params.{Params as ParamsValue
 ghost use Rattle.link_params.specs.Numbers.{period as period_of};
 ghost use Rattle.link_model.specs.Orders.{Observed};
 ghost use Rattle.link_model.specs.Sends.{data_place};
-ghost use Rattle.link_run.specs.Sendings.{BlocksGoOn, GoesOnTo, HasObserved, next_of};
+ghost use Rattle.link_run.specs.kept.Sendings.{BlocksGoOn, GoesOnTo, HasObserved, next_of};
 
 use crate::alignment::{Alignment, place_after};
 use link_params::{Mode, TxOrder};

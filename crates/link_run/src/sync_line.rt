@@ -1,7 +1,7 @@
 //! SYNC~ from the receiver to the transmitter (JESD204B.01 clause 4.9, "SYNC interface").
 ghost use Rattle.std.specs.Prelude.{◌≡◌, ◌<◌, ◌++◌, ◌∷◌, [], ℕ, true, Bool, List, length, get_or, IfOk};
-ghost use Rattle.link_run.specs.Seen.{HasSynced};
-ghost use Rattle.link_model.specs.Before.{seen_of};
+ghost use Rattle.link_run.specs.kept.Seen.{HasSynced};
+ghost use Rattle.link_model.specs.kept.Before.{seen_of};
 
 use circular_buffer::HeapCircularBuffer;
 use jesd_base::NoMemory;

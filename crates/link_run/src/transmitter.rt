@@ -5,15 +5,15 @@ ghost use Rattle.link_params.specs.declared.fields.Params.{Params as ParamsValue
 ghost use Rattle.link_params.specs.Laws.{is_b};
 ghost use Rattle.scenario.specs.Plans.{Plan, plan_of};
 ghost use Rattle.bring_up.specs.Decisions.{is_hunting};
-ghost use Rattle.link_model.specs.Before.{levels_after, observed_before};
+ghost use Rattle.link_model.specs.kept.Before.{levels_after, observed_before};
 ghost use Rattle.link_model.specs.Edges.{is_reset, phase as phase_of};
 ghost use Rattle.link_model.specs.Kinds.{moment_of};
 ghost use Rattle.link_model.specs.Moments.{History};
 ghost use Rattle.link_model.specs.Orders.{Observed};
 ghost use Rattle.link_model.specs.Sends.{data_place};
-ghost use Rattle.link_run.specs.Seen.{HasSynced};
-ghost use Rattle.link_run.specs.Sendings.{HasObserved, next_of};
-ghost use Rattle.link_run.specs.Transmitters.{HasSentRun, HasSentTick, IsSentTick, Observes};
+ghost use Rattle.link_run.specs.kept.Seen.{HasSynced};
+ghost use Rattle.link_run.specs.kept.Sendings.{HasObserved, next_of};
+ghost use Rattle.link_run.specs.kept.Transmitters.{HasSentRun, HasSentTick, IsSentTick, Observes};
 
 use crate::device_clock::DeviceClock;
 use crate::feed::Feed;
@@ -39,7 +39,7 @@ pub struct Transmitter {
 
 impl Model for Transmitter {
     ghost use Rattle.std.specs.Prelude.{◌≡◌, length};
-    ghost use Rattle.link_run.specs.Transmitters.{TxEnd};
+    ghost use Rattle.link_run.specs.kept.Transmitters.{TxEnd};
 
     ghost Value = { TxEnd };
 

@@ -6,8 +6,8 @@ ghost use Rattle.link_params.specs.Lanes.{Handed};
 ghost use Rattle.link_params.specs.Laws.{is_b};
 ghost use Rattle.link_params.specs.Numbers.{width};
 ghost use Rattle.link_model.specs.Kinds.{kind_of};
-ghost use Rattle.link_run.specs.LaneEnds.{HasSent, IsSmall, MayFollow, next_in, params_in, tx_width};
-ghost use Rattle.link_run.specs.Sendings.{next_after};
+ghost use Rattle.link_run.specs.kept.LaneEnds.{HasSent, IsSmall, MayFollow, next_in, params_in, tx_width};
+ghost use Rattle.link_run.specs.kept.Sendings.{next_after};
 
 use lane_b::TxLaneB;
 use lane_c::TxLaneC;

@@ -7,10 +7,10 @@ use Rattle.std.proofs.lemmas.Nat.{shr-shr, mod-mul-add, pow_pos}
 use Rattle.std.proofs.Math.Nat.{mod-eq_of_lt, mod-lt, div-eq_of_lt}
 use Rattle.std.proofs.Math.Pow.{pow-lt}
 use Rattle.jesd_base.specs.Bits.{bits, value}
-use Rattle.jesd_base.specs.BitLaws.{BitsLength, ValueOfBits, BitsOfValue, ValueOfAppend}
+use Rattle.jesd_base.specs.laws.BitLaws.{BitsLength, ValueOfBits, BitsOfValue, ValueOfAppend}
 use Rattle.multiblock.specs.declared.place.Place.{Place as Found}
 use Rattle.multiblock.specs.Places.{Place, pattern, pattern_size, span, next_place, found}
-use Rattle.multiblock.specs.Hunts.{Kept, aged, HasKept, HasHunted, is_good, sync_bit, all_words, remainder_at, IsNothing, IsFound}
+use Rattle.multiblock.specs.kept.Hunts.{Kept, aged, HasKept, HasHunted, is_good, sync_bit, all_words, remainder_at, IsNothing, IsFound}
 use Rattle.multiblock.proofs.PlaceLemmas.{finds_none, pattern_stays, not-found, found-of}
 use Rattle.multiblock.proofs.Patterns.{drop-bits, where_true, pattern-kept}
 

@@ -14,7 +14,7 @@ use Rattle.block_66b.specs.Blocks.{header}
 use Rattle.block_66b.specs.declared.sync_bit.SyncBit.{SyncBit}
 use Rattle.multiblock.specs.SyncWords.{same_bits, pilot}
 use Rattle.multiblock.specs.Places.{headers, pieces, pattern_size, good, have_pilots, ends_at, remainder_of, pattern}
-use Rattle.multiblock.specs.Hunts.{Kept, aged, is_good, sync_bit, all_good, pilot_at, all_words, ends_of, remainder_at}
+use Rattle.multiblock.specs.kept.Hunts.{Kept, aged, is_good, sync_bit, all_good, pilot_at, all_words, ends_of, remainder_at}
 
 -- ---- bits
 

@@ -8,7 +8,7 @@ use Rattle.block_66b.specs.Blocks.{header}
 use Rattle.block_66b.specs.declared.sync_bit.SyncBit.{SyncBit}
 use Rattle.multiblock.specs.declared.place.Place.{Place as Found}
 use Rattle.multiblock.specs.Places.{headers, pieces, pattern_size, good, remainder_of, pattern, span, Place, place_among, least_place, next_place, found}
-use Rattle.multiblock.specs.PlaceLaws.{IsLeastPlace, FindsLeastPlace, FindsNone, PatternStays, PlaceStays, FoundInTick}
+use Rattle.multiblock.specs.laws.PlaceLaws.{IsLeastPlace, FindsLeastPlace, FindsNone, PatternStays, PlaceStays, FoundInTick}
 use Rattle.std.proofs.Math.Nat.{mod-lt}
 
 some-same : {A : Type 0} (x y : A) → Some x ≡ Some y → x ≡ y

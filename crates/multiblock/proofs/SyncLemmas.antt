@@ -7,13 +7,13 @@ use Rattle.std.proofs.Math.Pow.{mod-mod-pow}
 use Rattle.std.proofs.lemmas.Nat.{and_mask, pow_pos, mod-pow-add, or_shifted, shl-shr, shr-shr}
 use Rattle.std.proofs.lemmas.Bool.{eqb-true}
 use Rattle.jesd_base.specs.Bits.{bits, value}
-use Rattle.jesd_base.specs.BitLaws.{BitsLength, ValueOfBits, BitsOfValue, BitsOfBoth}
+use Rattle.jesd_base.specs.laws.BitLaws.{BitsLength, ValueOfBits, BitsOfValue, BitsOfBoth}
 use Rattle.link_params.specs.declared.fields.Mode.{Mode}
 use mir.Val.{bool_byte}
 use Rattle.link_params.specs.declared.fields.Mode.TheVariants.{B, CCrc, CFec}
 use Rattle.multiblock.specs.SyncWords.{sync_word, sync_form, carriers, is_check, is_cmd, is_end, same_bits, pilot, read_sync}
 use Rattle.multiblock.specs.declared.sync_read.SyncRead.{SyncRead}
-use Rattle.multiblock.specs.SyncLaws.{ReadsBack}
+use Rattle.multiblock.specs.laws.SyncLaws.{ReadsBack}
 
 -- the n bits of a number from bit k on
 unfoldable pub part : ℕ → ℕ → ℕ → List Bool

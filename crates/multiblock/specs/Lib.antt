@@ -1,5 +1,4 @@
 pub mod SyncWords
-pub mod SyncLaws
 pub mod Places
-pub mod PlaceLaws
-pub mod Hunts
+pub mod kept
+pub mod laws

@@ -4,8 +4,8 @@ ghost use Rattle.std.specs.Int.{bit_at};
 ghost use Rattle.jesd_base.specs.Bits.{bits, add};
 ghost use Rattle.jesd_base.specs.Search.{first_from};
 ghost use Rattle.multiblock.specs.Places.{found, next_place, pattern_size, span};
-ghost use Rattle.multiblock.specs.PlaceLaws.{FindsLeastPlace, FindsNone, PatternStays, PlaceStays, FoundInTick};
-ghost use Rattle.multiblock.specs.Hunts.{Kept, HasHunted, HasKept, aged, is_good, sync_bit, all_good, pilot_at, all_words, ends_of, remainder_at, StandsAt, IsFound, IsNothing};
+ghost use Rattle.multiblock.specs.laws.PlaceLaws.{FindsLeastPlace, FindsNone, PatternStays, PlaceStays, FoundInTick};
+ghost use Rattle.multiblock.specs.kept.Hunts.{Kept, HasHunted, HasKept, aged, is_good, sync_bit, all_good, pilot_at, all_words, ends_of, remainder_at, StandsAt, IsFound, IsNothing};
 
 use crate::place::Place;
 use jesd_base::bits_and_numbers;
@@ -31,7 +31,7 @@ pub struct PlaceHunt {
 
 impl Model for PlaceHunt {
     ghost use Rattle.std.specs.Prelude.{◌≤◌, ◌<◌, ◌^◌, length};
-    ghost use Rattle.multiblock.specs.Hunts.{Kept};
+    ghost use Rattle.multiblock.specs.kept.Hunts.{Kept};
 
     ghost Value = { Kept };
 

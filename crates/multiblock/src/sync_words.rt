@@ -2,7 +2,7 @@
 ghost use Rattle.std.specs.Prelude.{◌≡◌, ◌≢◌, ◌+◌, ◌^◌, ◌<◌, ◌≤◌, ◌++◌, ℕ};
 ghost use Rattle.jesd_base.specs.Bits.{bits};
 ghost use Rattle.multiblock.specs.SyncWords.{sync_word};
-ghost use Rattle.multiblock.specs.SyncLaws.{ReadsBack};
+ghost use Rattle.multiblock.specs.laws.SyncLaws.{ReadsBack};
 
 use jesd_base::bits_and_numbers;
 use link_params::Mode;

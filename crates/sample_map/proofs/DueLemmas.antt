@@ -12,7 +12,7 @@ use Rattle.jesd_base.proofs.BitLemmas.{value_of_bits}
 use Rattle.link_params.specs.declared.fields.Params.{Params}
 use Rattle.link_params.specs.Laws.{broken_law}
 use Rattle.sample_map.specs.Frames.{OneFrame, OneReading, bit_due, octet_due, word_due, frame_of, words_of}
-use Rattle.sample_map.specs.Groups.{Grouping, bit_in_word, grouping, groups}
+use Rattle.sample_map.specs.kept.Groups.{Grouping, bit_in_word, grouping, groups}
 use Rattle.sample_map.specs.Layout.{IsFrame, frame_bit, place}
 use Rattle.sample_map.proofs.SizeLemmas.{AreGroups, groups_fit}
 use Rattle.sample_map.proofs.PlaceLemmas.{group-lt, group_place, in_group-lt, place-groups}

@@ -8,9 +8,9 @@ use Rattle.std.proofs.lemmas.Grind.{same_number_lists}
 use Rattle.std.specs.Int.{bit_at}
 use Rattle.link_params.specs.declared.fields.Params.{Params}
 use Rattle.link_params.specs.Laws.{broken_law}
-use Rattle.sample_map.specs.Groups.{Grouping, HasOctet, HasWord, bit_in_word, group_bit, grouping, groups}
+use Rattle.sample_map.specs.kept.Groups.{Grouping, HasOctet, HasWord, bit_in_word, group_bit, grouping, groups}
 use Rattle.sample_map.specs.Layout.{AreWords, IsFrame, frame_bit, place, word_bit}
-use Rattle.sample_map.specs.LayoutLaws.{PlacesApart, PlacesFit, ReadsBack}
+use Rattle.sample_map.specs.laws.LayoutLaws.{PlacesApart, PlacesFit, ReadsBack}
 use Rattle.sample_map.proofs.SizeLemmas.{AreGroups, groups_fit}
 use Rattle.sample_map.proofs.GroupLemmas.{group_bit-at}
 use Rattle.sample_map.proofs.PlaceLemmas.{frame_bit-at, group-lt, group_place, group_place-apart, group_within, group_place-lt, in_group-lt, place-groups}

@@ -12,9 +12,8 @@ use Rattle.jesd_base.proofs.BitLemmas.{bits_of_value, value_below}
 use Rattle.link_params.specs.declared.fields.Params.{Params}
 use Rattle.link_params.specs.Laws.{broken_law}
 use Rattle.sample_map.specs.Frames.{bit_due, octet_due, word_due, frame_of, words_of}
-use Rattle.sample_map.specs.Groups.{Grouping, bit_in_word, grouping, groups}
-use Rattle.sample_map.specs.Layout.{AreWords, IsFrame, frame_bit, place, lane_words, word_bit}
-use Rattle.sample_map.specs.LayoutLaws.{FitFrame}
+use Rattle.sample_map.specs.kept.Groups.{Grouping, bit_in_word, grouping, groups}
+use Rattle.sample_map.specs.Layout.{AreWords, IsFrame, frame_bit, place, lane_words, word_bit, FitFrame}
 use Rattle.sample_map.proofs.DueLemmas.{due-groups, group_due}
 use Rattle.sample_map.proofs.FrameLemmas.{places_fit, reads_back}
 use Rattle.sample_map.proofs.SizeLemmas.{AreGroups, groups_fit}

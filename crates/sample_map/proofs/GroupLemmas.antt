@@ -7,7 +7,7 @@ use Rattle.std.proofs.lemmas.Nat.{div-mul-add, mod-mul-add, mul-add-lt}
 use Rattle.std.proofs.lemmas.List.{get_or-set_other, get_or-set_same}
 use Rattle.std.proofs.Math.ListN.{set}
 use Rattle.std.specs.Int.{bit_at}
-use Rattle.sample_map.specs.Groups.{Grouping, HasOctet, bit_in_word, group_bit}
+use Rattle.sample_map.specs.kept.Groups.{Grouping, HasOctet, bit_in_word, group_bit}
 use Rattle.sample_map.proofs.BitLemmas.{bit_at-up_low, bit_at-up_high}
 
 -- bit b of word i of a group

@@ -6,7 +6,7 @@ use Rattle.std.proofs.lemmas.Bool.{cases_Bool, cases_lt}
 use Rattle.std.proofs.lemmas.Nat.{div-mul-add, mod-mul-add, mul-add-lt}
 use Rattle.std.specs.Int.{bit_at}
 use Rattle.link_params.specs.declared.fields.Params.{Params}
-use Rattle.sample_map.specs.Groups.{Grouping, grouping}
+use Rattle.sample_map.specs.kept.Groups.{Grouping, grouping}
 use Rattle.sample_map.specs.Layout.{place, frame_bit}
 use Rattle.sample_map.proofs.SizeLemmas.{AreGroups}
 

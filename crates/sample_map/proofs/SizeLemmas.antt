@@ -5,7 +5,7 @@ use Rattle.std.proofs.lemmas.Bool.{cases_Bool, cases_lt}
 use Rattle.link_params.specs.declared.fields.Params.{Params}
 use Rattle.link_params.specs.Laws.{broken_law, ceil}
 use Rattle.link_params.proofs.LawFacts.{legal_sizes}
-use Rattle.sample_map.specs.Groups.{Grouping, grouping, groups}
+use Rattle.sample_map.specs.kept.Groups.{Grouping, grouping, groups}
 
 -- so many groups hold the words and octets of a frame
 pub record AreGroups (g : Grouping) (count : ℕ) (words octets : ℕ) : Type 0 where

@@ -7,8 +7,7 @@ use Rattle.std.specs.List.{range_with_len}
 use Rattle.jesd_base.specs.Bits.{value}
 use Rattle.link_params.specs.declared.fields.Params.{Params}
 use Rattle.link_params.specs.Laws.{broken_law}
-use Rattle.sample_map.specs.Layout.{IsFrame, AreWords, frame_bit, lane_words, place, word_bit}
-use Rattle.sample_map.specs.LayoutLaws.{FitFrame}
+use Rattle.sample_map.specs.Layout.{IsFrame, AreWords, frame_bit, lane_words, place, word_bit, FitFrame}
 
 -- the bit at a place among all bits of a frame: that of the word which has the place, and 0 where none has
 abbrev pub bit_due : Params → List ℕ → ℕ → ℕ

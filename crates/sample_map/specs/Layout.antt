@@ -34,3 +34,8 @@ pub record AreWords (p : Params) (octets words : List ℕ) : Type 0 where
   pub whole : length words ≡ p.m * p.s
   pub below : (r : ℕ) → r < p.m * p.s → slice_index words r < 2 ^ (p.n + p.cs)
   pub bits : (r b : ℕ) → r < p.m * p.s → b < p.n + p.cs → bit_at (slice_index words r) (p.n + p.cs - 1 - b) ≡ frame_bit octets (place p r b)
+
+-- words of a frame's size
+pub record FitFrame (p : Params) (words : List ℕ) : Type 0 where
+  pub whole : length words ≡ p.m * p.s
+  pub below : (r : ℕ) → r < p.m * p.s → slice_index words r < 2 ^ (p.n + p.cs)

@@ -1,6 +1,4 @@
 pub mod Layout
-pub mod LayoutLaws
-pub mod Groups
-pub mod Grids
-pub mod Cursors
 pub mod Frames
+pub mod kept
+pub mod laws

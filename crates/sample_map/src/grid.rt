@@ -2,7 +2,7 @@
 ghost use Rattle.std.specs.Prelude.{◌≡◌, ℕ, ◌+◌, ◌-◌, ◌*◌, ◌/◌, ◌%◌, ◌^◌, ◌<◌, ◌≤◌, None, length, slice_index};
 ghost use Rattle.std.specs.Int.{bit_at};
 ghost use Rattle.link_params.specs.Laws.{broken_law};
-ghost use Rattle.sample_map.specs.Groups.{HasOctet, HasWord, group_bit, grouping};
+ghost use Rattle.sample_map.specs.kept.Groups.{HasOctet, HasWord, group_bit, grouping};
 
 use crate::cursor::Cursor;
 use link_params::Shape;
@@ -26,8 +26,8 @@ pub(crate) struct Grid {
 }
 
 impl Grid {
-    ghost use Rattle.sample_map.specs.Cursors.{Holds};
-    ghost use Rattle.sample_map.specs.Grids.{sizes};
+    ghost use Rattle.sample_map.specs.kept.Cursors.{Stands};
+    ghost use Rattle.sample_map.specs.kept.Grids.{sizes};
 
     /// The groups of a shape.
     pub(crate) fn of(shape: &Shape) -> Grid
@@ -71,12 +71,12 @@ impl Grid {
 
     /// The octet at a cursor, and the cursor behind it.
     fn octet_at(&self, words: &[u32], cursor: Cursor) -> (u8, Cursor)
-        requires holds { Holds (sizes self.now) words.now cursor }
+        requires holds { Stands (sizes self.now) words.now cursor }
         requires group { (cursor.group + 1) * self.now.words ≤ length words.now }
         requires below { (r : ℕ) → r < length words.now → slice_index words.now r < 2 ^ self.now.used }
         ensures below { result.0 < 256 }
         ensures octet { (i : ℕ) → i < 8 → bit_at result.0 (7 - i) ≡ group_bit (sizes self.now) words.now cursor.group (8 * cursor.place + i) }
-        ensures holds { Holds (sizes self.now) words.now result.1 }
+        ensures holds { Stands (sizes self.now) words.now result.1 }
         ensures next { result.1.group * self.now.octets + result.1.place ≡ cursor.group * self.now.octets + cursor.place + 1 }
     {
         let Cursor {

@@ -18,8 +18,8 @@ impl Model for Layout {
     ghost use Rattle.std.specs.Prelude.{◌≡◌, None};
     ghost use Rattle.link_params.specs.declared.fields.Params.{Params};
     ghost use Rattle.link_params.specs.Laws.{broken_law};
-    ghost use Rattle.sample_map.specs.Groups.{grouping};
-    ghost use Rattle.sample_map.specs.Grids.{sizes};
+    ghost use Rattle.sample_map.specs.kept.Groups.{grouping};
+    ghost use Rattle.sample_map.specs.kept.Grids.{sizes};
 
     ghost Value = { Params };
 

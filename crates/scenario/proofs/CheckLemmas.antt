@@ -10,7 +10,7 @@ use Rattle.scenario.specs.declared.cause.Cause.TheVariants as cause
 use Rattle.scenario.specs.declared.fault.Fault.{Fault}
 use Rattle.scenario.specs.Text.{Text}
 use Rattle.scenario.specs.Check.{first, fault, lowest, Checks, basic_fault, fault_of}
-use Rattle.scenario.specs.Reads.{link_law, params_of, timing_law, timing_of, words_of, word_or_0, word_limit}
+use Rattle.scenario.specs.Reads.{link_law, params_of, timing_law, timing_of, words_in_fields, word_or_0, word_limit}
 
 -- a word that is not too large
 abbrev pub is_word_of : Params → Text → Bool
@@ -76,7 +76,7 @@ added old due new n e len =
     let enough : length due ≤ length new - n = omega arith in
     ap (take (length new - n)) rest ∙ take_all (length new - n) due enough
 
-pub frame-ranges : (ts : List Text) (p : Params) (limit : ℕ) (part : List ℕ) → part ≡ words_of ts
+pub frame-ranges : (ts : List Text) (p : Params) (limit : ℕ) (part : List ℕ) → part ≡ words_in_fields ts
     → limit ≡ word_limit p
     → lowest 1 (map (λ w. nat_lt w limit) part) ≡ lowest 1 (map (is_word_of p) (drop 1 ts))
 frame-ranges ts p limit part e l =

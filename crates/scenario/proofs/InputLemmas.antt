@@ -14,7 +14,7 @@ use Rattle.scenario.specs.Inputs.{input_words}
 use Rattle.scenario.specs.Limits.{has_words, ramp_fits}
 use Rattle.scenario.specs.Plans.{source_in, source_of}
 use Rattle.scenario.specs.Reads.{Seen, word_limit}
-use Rattle.scenario.specs.Sound.{AreFrames, AreOctets, AreSound, HasNone, IsInput, IsSound}
+use Rattle.scenario.specs.kept.Sound.{AreFrames, AreOctets, AreSound, HasNone, IsInput, IsSound}
 use Rattle.scenario.specs.declared.stage.Stage.TheVariants as stage
 use Rattle.scenario.proofs.SoundLemmas.{no-frames, no-octets}
 

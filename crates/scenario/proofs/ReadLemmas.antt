@@ -3,18 +3,18 @@ use Rattle.std.proofs.Common.{◌≡◌, ◌<◌, ◌+◌, ℕ, zero, suc, Bool,
 use Rattle.std.proofs.Math.Seq.{drop-cons}
 use Rattle.scenario.specs.Text.{Text, number}
 use Rattle.scenario.specs.Check.{lowest}
-use Rattle.scenario.specs.Reads.{field, num, are_numbers, numbers_from}
+use Rattle.scenario.specs.Reads.{field, num, are_numbers, numbers_in_fields}
 
 -- a text that is a number
 abbrev pub is_number : Text → Bool
 is_number text = is_some (number text)
 
 pub numbers_from-more : (n i : ℕ) (fields : List Text)
-    → numbers_from i (suc n) fields ≡ numbers_from i n fields ++ num fields (i + n) ∷ []
+    → numbers_in_fields i (suc n) fields ≡ numbers_in_fields i n fields ++ num fields (i + n) ∷ []
 numbers_from-more zero i fields = ap (λ k. num fields k ∷ []) (let e : i ≡ i + 0 = omega arith in e)
 numbers_from-more (suc n) i fields =
     ap (λ ns. num fields i ∷ ns) (numbers_from-more n (i + 1) fields
-    ∙ ap (λ k. numbers_from (i + 1) n fields ++ num fields k ∷ [])
+    ∙ ap (λ k. numbers_in_fields (i + 1) n fields ++ num fields k ∷ [])
     (let e : i + 1 + n ≡ i + suc n = omega arith in e))
 
 pub lowest-number : (m i : ℕ) (fields : List Text) → is_number (field fields i) ≡ true

@@ -26,9 +26,9 @@ use Rattle.scenario.specs.Text.{Text}
 use Rattle.scenario.specs.Check.{fault, unless, basic_fault, fault_of, or_fault}
 use Rattle.scenario.specs.Limits.{event_fits}
 use Rattle.scenario.specs.Plans.{Frames, Plan, Ramp, Source, events_in, in_order, numbers_from, plan_at, source_frame, source_of, source_word}
-use Rattle.scenario.specs.Reads.{Seen, add, misplaced, in_body, frame_checks, words_of, ramp_checks, ramp_of, params_of, link_checks, link_law, timing_checks, timing_law, timing_of, of_kind, of_known, kind_of, field, version_read, version_fault, is_start, is_whole, step, ended, over, nothing, reads, rows_of, word_limit}
-use Rattle.scenario.specs.ReadingLaws.{IsLegalPlan, ReadsLegalPlans, ReadsPlans}
-use Rattle.scenario.specs.Sound.{AreSound, IsInput, IsSound}
+use Rattle.scenario.specs.Reads.{Seen, add, misplaced, in_body, frame_checks, words_in_fields, ramp_checks, ramp_of, params_of, link_checks, link_law, timing_checks, timing_law, timing_of, of_kind, of_known, kind_of, field, version_read, version_fault, is_start, is_whole, step, ended, over, nothing, reads, rows_of, word_limit}
+use Rattle.scenario.specs.laws.ReadingLaws.{IsLegalPlan, ReadsLegalPlans, ReadsPlans}
+use Rattle.scenario.specs.kept.Sound.{AreSound, IsInput, IsSound}
 use Rattle.scenario.proofs.SoundLemmas.{fault-None, first-None, or_fault-Ok, step-sound, unless-None}
 
 -- ---- the link obeys its laws where it is fixed
@@ -86,7 +86,7 @@ body-legal : (seen : Seen) (ts : List Text) (b : Setup) (k : Kind) (next : Seen)
 body-legal seen ts b kind.Frame next e is has = elim (cases_Bool (is_none b.ramp)) [
   | inl y ↦
       let added : add ts (frame_checks b.link.params ts)
-      (record seen { words = seen.words ++ words_of ts }) ≡ Ok next = rw y at e in
+      (record seen { words = seen.words ++ words_in_fields ts }) ≡ Ok next = rw y at e in
       stays _ seen _ next (stage.Body b) added refl is has
   | inr n ↦ let bad : misplaced ≡ Ok next = rw n at e in cc bad
 ]

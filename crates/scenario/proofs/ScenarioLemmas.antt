@@ -9,7 +9,7 @@ use Rattle.scenario.specs.declared.kind.Job.{Job}
 use Rattle.scenario.specs.Causes.{cause_number}
 use Rattle.scenario.specs.Text.{Text, stripped}
 use Rattle.scenario.specs.Reads.{Seen, bad_at, nothing, over, reads, step, ended}
-use Rattle.scenario.specs.Sound.{IsSound}
+use Rattle.scenario.specs.kept.Sound.{IsSound}
 use Rattle.scenario.proofs.SoundLemmas.{step-sound}
 use Rattle.scenario.proofs.RowLemmas.{records-begin, records-are}
 

@@ -19,11 +19,11 @@ use Rattle.scenario.specs.declared.stage.Ramp.{Ramp}
 use Rattle.scenario.specs.declared.stage.Setup.{Setup}
 use Rattle.scenario.specs.declared.stage.Stage.{Stage}
 use Rattle.scenario.specs.declared.stage.Stage.TheVariants as stage
-use Rattle.scenario.specs.Text.{Text, octets_of, is_hex}
+use Rattle.scenario.specs.Text.{Text, hex_octets, is_hex}
 use Rattle.scenario.specs.Check.{first, fault, lowest, unless, Checks, fault_of, or_fault}
-use Rattle.scenario.specs.Reads.{Seen, num, misplaced, events_fit, events_so_far, with_event, in_body, add, run_checks, print_or_none, is_small_run, ramp_checks, ramp_of, delay_checks, delay_of, dead_checks, dead_of, reset_checks, reset_of, jitter_checks, jitter_of, flipped, flip_checks, flip_of, word_or_0, words_of, word_limit, is_octets, all_octets, frame_checks, octets_checks, params_of, after_link, of_kind, of_known, kind_of, field, version_read, version_fault, is_start, step}
+use Rattle.scenario.specs.Reads.{Seen, num, misplaced, room_for_event, events_so_far, with_event, in_body, add, run_checks, print_or_none, is_small_run, ramp_checks, ramp_of, delay_checks, delay_of, dead_checks, dead_of, reset_checks, reset_of, jitter_checks, jitter_of, flipped, flip_checks, flip_of, word_or_0, words_in_fields, word_limit, is_octets, all_octets, frame_checks, octets_checks, params_of, after_link, of_kind, of_known, kind_of, field, version_read, version_fault, is_start, step}
 use Rattle.scenario.specs.Limits.{event_fits, flip_fits, jitter_fits}
-use Rattle.scenario.specs.Sound.{AreEvents, AreFrames, AreOctets, AreSound, AreTicks, HasNone, IsInput, IsSound}
+use Rattle.scenario.specs.kept.Sound.{AreEvents, AreFrames, AreOctets, AreSound, AreTicks, HasNone, IsInput, IsSound}
 use Rattle.scenario.proofs.FlipLemmas.{flipped-more}
 
 -- what is known of a value that was read
@@ -90,11 +90,11 @@ words-fit limit (t ∷ ts) i e = elim (cases_Bool (nat_lt (word_or_0 t) limit)) 
   | inr n ↦ let bad : Some i ≡ None = rw n at e in cc bad
 ]
 
-octets_of-length : (t : Text) (f : ℕ) → length t ≡ 2 * f → length (octets_of t) ≡ f
+octets_of-length : (t : Text) (f : ℕ) → length t ≡ 2 * f → length (hex_octets t) ≡ f
 octets_of-length [] f e = omega arith
 octets_of-length (a ∷ []) f e = absurd (omega arith)
 octets_of-length (a ∷ b ∷ rest) zero e = absurd (omega arith)
-octets_of-length (a ∷ b ∷ rest) (suc f) e = let h : length (octets_of rest) ≡ f =
+octets_of-length (a ∷ b ∷ rest) (suc f) e = let h : length (hex_octets rest) ≡ f =
     octets_of-length rest f (omega arith) in omega arith
 
 all_octets-length : (ts : List Text) (f i : ℕ) → lowest i (map (is_octets f) ts) ≡ None
@@ -106,7 +106,7 @@ all_octets-length (t ∷ ts) f i e = elim (cases_Bool (is_octets f t)) [
       eqb-true (length t) (2 * f) (and_parts (length t == 2 * f) (list_all is_hex t) y).0 in
       let here = octets_of-length t f size in
       let rest = all_octets-length ts f (i + 1) (rw y at e) in
-      omega (arith, length-append (octets_of t) (all_octets ts), here, rest)
+      omega (arith, length-append (hex_octets t) (all_octets ts), here, rest)
   | inr n ↦ let bad : Some i ≡ None = rw n at e in cc bad
 ]
 
@@ -119,12 +119,12 @@ whole-more xs ys k whole e = ap (λ n. n % k) (length-append xs ys ∙ ap (λ n.
     ∙ add-mod_right (length xs) k ∙ whole
 
 frames-more : (p : Params) (words : List ℕ) (ts : List Text) → AreFrames p words
-    → fault_of (length ts) (frame_checks p ts) ≡ None → AreFrames p (words ++ words_of ts)
+    → fault_of (length ts) (frame_checks p ts) ≡ None → AreFrames p (words ++ words_in_fields ts)
 frames-more p words ts are e =
     let h = holds (length ts) (frame_checks p ts) e in record {
-      whole = whole-more words (words_of ts) (p.m * p.s) are.whole (length-map (drop 1 ts) word_or_0
+      whole = whole-more words (words_in_fields ts) (p.m * p.s) are.whole (length-map (drop 1 ts) word_or_0
           ∙ behind-first ts (p.m * p.s) h.count);
-      fit = All-append (λ w. w < word_limit p) words (words_of ts) are.fit
+      fit = All-append (λ w. w < word_limit p) words (words_in_fields ts) are.fit
           (words-fit (word_limit p) (drop 1 ts) 1 h.ranges);
     }
 
@@ -184,7 +184,7 @@ run-ticks p ts e =
 
 event-more : (p : Params) (ticks : ℕ) (seen : Seen) (e : Event)
     → AreEvents p ticks seen.events seen.jitters seen.flips → event_fits p ticks e ≡ true
-    → first (events_fit (events_so_far seen) ∷ []) ≡ None
+    → first (room_for_event (events_so_far seen) ∷ []) ≡ None
     → AreEvents p ticks (seen.events ++ e ∷ []) seen.jitters seen.flips
 event-more p ticks seen e are fits more =
     let less =
@@ -274,7 +274,7 @@ no-length (w ∷ words) e = absurd (omega arith)
 
 event-sound : (seen : Seen) (b : Setup) (e : Event) → seen.stage ≡ stage.Body b
     → AreSound (stage.Body b) seen → event_fits b.link.params b.ticks e ≡ true
-    → first (events_fit (events_so_far seen) ∷ []) ≡ None → IsSound (with_event seen e)
+    → first (room_for_event (events_so_far seen) ∷ []) ≡ None → IsSound (with_event seen e)
 event-sound seen b e is (input, octets, ticks, events) fits more =
     at-stage (stage.Body b) seen.stage (with_event seen e) is
     (input, octets, ticks, event-more b.link.params b.ticks seen e events fits more)
@@ -285,13 +285,13 @@ body-frame : (seen : Seen) (ts : List Text) (b : Setup) (next : Seen)
 body-frame seen ts b next e is (input, octets, ticks, events) = elim (cases_Bool (is_none b.ramp)) [
   | inl y ↦
       let added : add ts (frame_checks b.link.params ts)
-      (record seen { words = seen.words ++ words_of ts }) ≡ Ok next = rw y at e in
+      (record seen { words = seen.words ++ words_in_fields ts }) ≡ Ok next = rw y at e in
       let ok = or_fault-Ok _ _ next added in
       let frames = frames-more b.link.params seen.words ts
       (input-frames b.link.params b.ramp seen.words y input) ok.0 in
       rw (← ok.1)
-      (at-stage (stage.Body b) seen.stage (record seen { words = seen.words ++ words_of ts }) is (
-        frames-input b.link.params b.ramp (seen.words ++ words_of ts) y frames,
+      (at-stage (stage.Body b) seen.stage (record seen { words = seen.words ++ words_in_fields ts }) is (
+        frames-input b.link.params b.ramp (seen.words ++ words_in_fields ts) y frames,
         octets,
         ticks,
         events,
@@ -362,7 +362,7 @@ kind-sound seen fields (stage.Frames p) kind.Frame next e is (frames, octets, no
     let ok = or_fault-Ok _ _ next e in
     rw (← ok.1)
     (at-stage (stage.Frames p) seen.stage
-    (record seen { words = seen.words ++ words_of fields }) is
+    (record seen { words = seen.words ++ words_in_fields fields }) is
     (frames-more p seen.words fields frames ok.0, octets, none))
 kind-sound seen fields (stage.Octets p) kind.Octets next e is (words, octets, none) =
     let ok = or_fault-Ok _ _ next e in

@@ -2,12 +2,11 @@ pub mod Text
 pub mod Causes
 pub mod Check
 pub mod Reads
-pub mod Sound
 pub mod Inputs
 pub mod Plans
 pub mod Limits
 pub mod Answer
 pub mod Digits
 pub mod ReportLines
-pub mod TextRooms
-pub mod ReadingLaws
+pub mod kept
+pub mod laws

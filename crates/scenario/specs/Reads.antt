@@ -33,7 +33,7 @@ use Rattle.scenario.specs.declared.stage.Setup.{Setup}
 use Rattle.scenario.specs.declared.stage.Stage.{Stage}
 use Rattle.scenario.specs.declared.stage.Stage.TheVariants as stage
 use Rattle.scenario.specs.Causes.{cause_number}
-use Rattle.scenario.specs.Text.{Text, stripped, number, word, signed, is_hex, octets_of}
+use Rattle.scenario.specs.Text.{Text, stripped, number, word, signed, is_hex, hex_octets}
 use Rattle.scenario.specs.Check.{fault, unless, lowest, first, Checks, fault_of, or_fault}
 
 -- ---- records and fields
@@ -60,15 +60,15 @@ are_numbers i zero fields = []
 are_numbers i (suc n) fields = is_some (number (field fields i)) ∷ are_numbers (i + 1) n fields
 
 -- the numbers in n fields from place i on
-abbrev pub numbers_from : ℕ → ℕ → List Text → List ℕ
-numbers_from i zero fields = []
-numbers_from i (suc n) fields = num fields i ∷ numbers_from (i + 1) n fields
+abbrev pub numbers_in_fields : ℕ → ℕ → List Text → List ℕ
+numbers_in_fields i zero fields = []
+numbers_in_fields i (suc n) fields = num fields i ∷ numbers_in_fields (i + 1) n fields
 
 -- what a reader of numbers answers: the numbers in the fields from place i on, or the first field
 -- with no number
 abbrev pub ReadNumbers : ℕ → List Text → List ℕ → Result (Unit {0}) Fault → Type 0
 ReadNumbers i fields ns (Ok u) = (lowest i (are_numbers i (length ns) fields) ≡ None)
-    × (ns ≡ numbers_from i (length ns) fields)
+    × (ns ≡ numbers_in_fields i (length ns) fields)
 ReadNumbers i fields ns (Err f) =
     option_map (fault cause.Form) (lowest i (are_numbers i (length ns) fields)) ≡ Some f
 
@@ -220,8 +220,8 @@ frame_checks p fields = record {
   more = [];
 }
 
-abbrev pub words_of : List Text → List ℕ
-words_of fields = map word_or_0 (drop 1 fields)
+abbrev pub words_in_fields : List Text → List ℕ
+words_in_fields fields = map word_or_0 (drop 1 fields)
 
 -- exactly 2·F hexadecimal digits
 abbrev pub is_octets : ℕ → Text → Bool
@@ -238,7 +238,7 @@ octets_checks p fields = record {
 
 abbrev pub all_octets : List Text → List ℕ
 all_octets [] = []
-all_octets (f ∷ fs) = octets_of f ++ all_octets fs
+all_octets (f ∷ fs) = hex_octets f ++ all_octets fs
 
 -- `ramp`: start word, step word, as decimal numbers
 abbrev pub ramp_checks : Params → List Text → Checks
@@ -253,8 +253,8 @@ abbrev pub ramp_of : List Text → Ramp
 ramp_of fields = record { start = num fields 1; step = num fields 2 }
 
 -- with one more, n events and jitters are not too many
-abbrev pub events_fit : ℕ → Option Fault
-events_fit n = unless (nat_lt n 4096) (fault cause.TooMany 0)
+abbrev pub room_for_event : ℕ → Option Fault
+room_for_event n = unless (nat_lt n 4096) (fault cause.TooMany 0)
 
 -- `delay`: tick, lane, bits
 abbrev pub delay_checks : ℕ → Setup → List Text → Checks
@@ -263,7 +263,7 @@ delay_checks n b fields = record {
   forms = are_numbers 1 3 fields;
   ranges = nat_lt (num fields 1) b.ticks ∷ nat_lt (num fields 2) b.link.params.l
       ∷ nat_le (num fields 3) ((period b.link.params - 1) * width b.link.params) ∷ [];
-  more = events_fit n ∷ [];
+  more = room_for_event n ∷ [];
 }
 
 abbrev pub delay_of : List Text → Event
@@ -276,7 +276,7 @@ dead_checks n b fields = record {
   forms = are_numbers 1 3 fields;
   ranges = nat_lt (num fields 1) b.ticks ∷ nat_lt (num fields 2) b.link.params.l
       ∷ nat_le (num fields 3) 1 ∷ [];
-  more = events_fit n ∷ [];
+  more = room_for_event n ∷ [];
 }
 
 abbrev pub dead_of : List Text → Event
@@ -288,7 +288,7 @@ reset_checks n b fields = record {
   count = 2;
   forms = is_some (number (field fields 1)) ∷ is_some (device_of (field fields 2)) ∷ [];
   ranges = nat_lt (num fields 1) b.ticks ∷ [];
-  more = events_fit n ∷ [];
+  more = room_for_event n ∷ [];
 }
 
 abbrev pub device_or_tx : Text → Device
@@ -309,7 +309,7 @@ jitter_checks n fields = record {
   ranges = true ∷ nat_le (num fields 2) 1048576
       ∷ (int_le (neg_ℤ (pos 32)) (signed_or_0 (field fields 3))
       && int_le (signed_or_0 (field fields 3)) (pos 32)) ∷ [];
-  more = events_fit n ∷ [];
+  more = room_for_event n ∷ [];
 }
 
 abbrev pub jitter_of : List Text → Jitter
@@ -398,7 +398,7 @@ unbuilt = Err (fault cause.NotBuilt 0)
 abbrev pub in_body : Seen → List Text → Setup → Kind → Result Seen Fault
 in_body seen fields b kind.Frame = if is_none b.ramp
     then add fields (frame_checks b.link.params fields)
-    (record seen { words = seen.words ++ words_of fields })
+    (record seen { words = seen.words ++ words_in_fields fields })
     else misplaced
 in_body seen fields b kind.Ramp = if is_none b.ramp && (length seen.words == 0)
     then add fields (ramp_checks b.link.params fields)
@@ -425,7 +425,7 @@ abbrev pub of_kind : Seen → List Text → Stage → Kind → Result Seen Fault
 of_kind seen fields (stage.Link j) kind.Link =
     add fields (link_checks fields) (record seen { stage = after_link j (params_of fields) })
 of_kind seen fields (stage.Frames p) kind.Frame =
-    add fields (frame_checks p fields) (record seen { words = seen.words ++ words_of fields })
+    add fields (frame_checks p fields) (record seen { words = seen.words ++ words_in_fields fields })
 of_kind seen fields (stage.Octets p) kind.Octets =
     add fields (octets_checks p fields)
     (record seen { octets = seen.octets ++ all_octets (drop 1 fields) })

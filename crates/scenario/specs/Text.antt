@@ -65,7 +65,7 @@ abbrev pub is_hex : ℕ → Bool
 is_hex c = is_digit c 16
 
 -- octets, two hexadecimal digits each
-abbrev pub octets_of : Text → List ℕ
-octets_of [] = []
-octets_of (a ∷ []) = []
-octets_of (a ∷ b ∷ rest) = (16 * digit_value a + digit_value b) ∷ octets_of rest
+abbrev pub hex_octets : Text → List ℕ
+hex_octets [] = []
+hex_octets (a ∷ []) = []
+hex_octets (a ∷ b ∷ rest) = (16 * digit_value a + digit_value b) ∷ hex_octets rest

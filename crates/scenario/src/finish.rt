@@ -4,7 +4,7 @@ ghost use Rattle.std.specs.List.Sorted.{IsNonDecreasingBy, IsPermutation};
 ghost use Rattle.scenario.specs.declared.plan.Event.{Event as EventValue};
 ghost use Rattle.scenario.specs.declared.stage.Stage.TheVariants as stage;
 ghost use Rattle.scenario.specs.Reads.{ended};
-ghost use Rattle.scenario.specs.Sound.{IsSound};
+ghost use Rattle.scenario.specs.kept.Sound.{IsSound};
 ghost use Rattle.scenario.specs.Plans.{in_order, source_in, source_of};
 ghost use Rattle.scenario.specs.Answer.{Answers, Holds, seen_of};
 

@@ -4,7 +4,7 @@ ghost use Rattle.std.specs.List.{list_all};
 ghost use Rattle.scenario.specs.declared.cause.Cause.TheVariants as cause;
 ghost use Rattle.scenario.specs.Text.{is_hex};
 ghost use Rattle.scenario.specs.Check.{KeptOr, fault, fault_of, lowest};
-ghost use Rattle.scenario.specs.Reads.{texts_of, is_word, frame_checks, octets_checks, words_of, all_octets, is_octets, field, word_limit};
+ghost use Rattle.scenario.specs.Reads.{texts_of, is_word, frame_checks, octets_checks, words_in_fields, all_octets, is_octets, field, word_limit};
 
 use crate::cause::Cause;
 use crate::fault::RecordFault;
@@ -18,7 +18,7 @@ fn push_words(row: &ByteRecord, fields: u32, words: &mut Vec<u32>) -> Result<(),
     requires { fields ≡ length (texts_of row.now) }
     ensures { KeptOr
         (option_map (fault cause.Form) (lowest 1 (map is_word (drop 1 (texts_of row.now)))))
-        words.new.items (words.old.items ++ words_of (texts_of row.now)) result }
+        words.new.items (words.old.items ++ words_in_fields (texts_of row.now)) result }
 {
     for at in 1..fields {
         let Some(word) = read_word(field_at(row, at)) else {
@@ -57,7 +57,7 @@ pub fn limit_of(shape: &Shape) -> u64
 pub fn read_frame(row: &ByteRecord, shape: &Shape, words: &mut Vec<u32>) -> Result<(), RecordFault>
     requires { length (texts_of row.now) < 2 ^ 32 }
     ensures { KeptOr (fault_of (length (texts_of row.now)) (frame_checks shape.now (texts_of row.now)))
-        words.new.items (words.old.items ++ words_of (texts_of row.now)) result }
+        words.new.items (words.old.items ++ words_in_fields (texts_of row.now)) result }
 {
     let fields = count(row);
     if fields != shape.frame_words() + 1 {

@@ -23,9 +23,9 @@ pub struct LineText {
 
 impl Model for LineText {
     ghost use Rattle.std.specs.Prelude.{vec_capacity};
-    ghost use Rattle.scenario.specs.TextRooms.{Text};
+    ghost use Rattle.scenario.specs.kept.TextRooms.{TextRoom};
 
-    ghost Value = { Text };
+    ghost Value = { TextRoom };
 
     ghost view = { λ t. record { bytes = t.bytes.items; room = vec_capacity t.bytes } };
 }

@@ -1,5 +1,5 @@
 //! Laws of the reading.
-ghost use Rattle.scenario.specs.ReadingLaws.{ReadsLegalPlans, ReadsPlans};
+ghost use Rattle.scenario.specs.laws.ReadingLaws.{ReadsLegalPlans, ReadsPlans};
 
 /// The records of each input that is accepted for the job `run` spell a plan, and this plan is
 /// legal: its link obeys the laws 1 to 17, its events, jitters and flips are in range, and each of

@@ -2,7 +2,7 @@
 ghost use Rattle.std.specs.Prelude.{◌≡◌, ◌≤◌, ◌<◌, ◌==◌, ◌||◌, ◌+◌, ◌++◌, length, OnOk, true, nat_le, ◌&&◌, ◌^◌, ◌*◌, IfSome};
 ghost use Rattle.std.specs.List.{list_all};
 ghost use Rattle.std.specs.Char.{digit_value};
-ghost use Rattle.scenario.specs.Text.{strip_start, strip_end, number, signed, word, is_blank, is_hex, octets_of, value_after};
+ghost use Rattle.scenario.specs.Text.{strip_start, strip_end, number, signed, word, is_blank, is_hex, hex_octets, value_after};
 
 use std::alloc::AllocError;
 
@@ -122,7 +122,7 @@ fn digit(c: u8) -> u8
 /// Adds the octets that pairs of digits write.
 pub fn push_octets(text: &[u8], octets: &mut Vec<u8>) -> Result<(), AllocError>
     requires { list_all is_hex text.now ≡ true }
-    ensures { OnOk result (octets.new.items ≡ octets.old.items ++ octets_of text.now) }
+    ensures { OnOk result (octets.new.items ≡ octets.old.items ++ hex_octets text.now) }
 {
     let mut rest = text;
     while let [high, low, more @ ..] = rest {

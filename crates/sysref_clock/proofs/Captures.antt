@@ -1,7 +1,7 @@
 -- The tick in which an edge is captured.
 use Rattle.std.proofs.Common.{◌≡◌, ℕ, ◌+◌, ◌*◌, ◌/◌, ◌≤◌, ℤ, pos, negsuc, ◌≤ℤ◌, ◌+ℤ◌, nat_abs, refl, arith}
 use Rattle.std.proofs.lemmas.Int.{ints}
-use Rattle.sysref_clock.specs.ClockLaws.{CapturedIsLeast}
+use Rattle.sysref_clock.specs.laws.ClockLaws.{CapturedIsLeast}
 
 place_of : (z : ℤ) → pos 0 ≤ℤ z → z ≡ pos (nat_abs z)
 place_of (pos n) h = refl

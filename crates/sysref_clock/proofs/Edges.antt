@@ -7,7 +7,7 @@ use Rattle.std.proofs.lemmas.Bool.Decides.{nat_tests}
 use Rattle.std.proofs.lemmas.List.{get_or_append_left, get_or_past, get_or_push}
 use Rattle.jesd_base.specs.Search.{first_from, IsLeast}
 use Rattle.sysref_clock.specs.Clocks.{first_edge, phase_after, off_after}
-use Rattle.sysref_clock.specs.ClockLaws.{IsFirstEdge, PhaseIsOfFirst, NextPhase}
+use Rattle.sysref_clock.specs.laws.ClockLaws.{IsFirstEdge, PhaseIsOfFirst, NextPhase}
 
 -- ---- the first edge
 

@@ -1,3 +1,3 @@
 pub mod Clocks
-pub mod Ticks
-pub mod ClockLaws
+pub mod kept
+pub mod laws

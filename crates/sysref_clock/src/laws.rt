@@ -1,5 +1,5 @@
 //! Laws of captured edges and of phases.
-ghost use Rattle.sysref_clock.specs.ClockLaws.{CapturedIsLeast, NextPhase, PhaseIsOfFirst};
+ghost use Rattle.sysref_clock.specs.laws.ClockLaws.{CapturedIsLeast, NextPhase, PhaseIsOfFirst};
 
 /// In which tick an edge is captured, and how phases go on (JESD204B.01 clause 6, "Deterministic latency").
 pub fn clock_laws()

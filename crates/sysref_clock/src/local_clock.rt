@@ -1,7 +1,7 @@
 //! The local clock of a device.
 ghost use Rattle.std.specs.Prelude.{◌≡◌, ◌<◌, ◌++◌, ◌∷◌, [], ℕ, Bool, List, Option, IfSome};
 ghost use Rattle.sysref_clock.specs.Clocks.{off_after, phase_after};
-ghost use Rattle.sysref_clock.specs.Ticks.{HasTicked};
+ghost use Rattle.sysref_clock.specs.kept.Ticks.{HasTicked};
 
 use crate::clock_tick::ClockTick;
 use std::marker::Model;
@@ -16,7 +16,7 @@ pub struct LocalClock {
 
 impl Model for LocalClock {
     ghost use Rattle.std.specs.Prelude.{◌<◌, IfSome};
-    ghost use Rattle.sysref_clock.specs.Ticks.{Clock};
+    ghost use Rattle.sysref_clock.specs.kept.Ticks.{Clock};
 
     ghost Value = { Clock };
 

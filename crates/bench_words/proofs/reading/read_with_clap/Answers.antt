@@ -1,7 +1,7 @@
 use Rattle.std.proofs.Common.{◌≡◌, ◌∙◌, sym, ap, codes, Some, inl, inr}
 use Rattle.bench_words.proofs.ClapLemmas.{is_read, is_refused}
-use Rattle.bench_words.specs.Clap.{given_of}
-use Rattle.bench_words.specs.Found.{given}
+use Rattle.bench_words.specs.kept.Clap.{given_of}
+use Rattle.bench_words.specs.kept.Found.{given}
 use Rattle.clap.specs.Walk.{rows_of}
 use Rattle.clap.specs.Values.{kind_of}
 use Rattle.clap.specs.Matches.{found_of}

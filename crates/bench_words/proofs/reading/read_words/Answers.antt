@@ -1,6 +1,6 @@
 use Rattle.std.proofs.Common.{◌∙◌, sym, ap, refl}
 use Rattle.std.specs.Prelude.{option_and_then}
-use Rattle.bench_words.specs.Clap.{asked_of}
+use Rattle.bench_words.specs.kept.Clap.{asked_of}
 use Rattle.bench_words.proofs.Agrees.{clap_agrees, texts_of}
 use Rattle.bench_words.proofs.reading.read_words.Goals as goal
 

@@ -1,5 +1,5 @@
 use Rattle.std.proofs.Common.{rules}
-use Rattle.code_8b10b.specs.Entries.{disparity_in}
+use Rattle.code_8b10b.specs.kept.Entries.{disparity_in}
 use Rattle.code_8b10b.proofs.code.disparity_of.Goals as goal
 
 pub returns-then-entry-lt2048 : goal.returns-then-entry-lt2048

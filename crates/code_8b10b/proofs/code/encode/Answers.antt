@@ -1,5 +1,5 @@
 use Rattle.std.proofs.Common.{rules}
-use Rattle.code_8b10b.specs.Entries.{spelled_by}
+use Rattle.code_8b10b.specs.kept.Entries.{spelled_by}
 use Rattle.code_8b10b.proofs.code.encode.Goals as goal
 
 pub returns-then-entry-eq0 : goal.returns-then-entry-eq0

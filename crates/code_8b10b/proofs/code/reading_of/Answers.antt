@@ -1,6 +1,6 @@
 use Rattle.std.proofs.Common.{arith}
 use Rattle.std.proofs.lemmas.Grind.{common_steps}
-use Rattle.code_8b10b.specs.Entries.{char_in, reading_in}
+use Rattle.code_8b10b.specs.kept.Entries.{char_in, reading_in}
 use Rattle.code_8b10b.proofs.code.reading_of.Goals as goal
 
 pub returns-in-0 : goal.returns-in-0

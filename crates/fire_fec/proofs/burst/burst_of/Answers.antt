@@ -1,5 +1,5 @@
 use Rattle.std.proofs.Common.{◌≡◌, ℕ, ◌/◌, ◌<◌, ◌^◌, refl, sym, ◌∙◌, ap, below_more, arith}
-use Rattle.fire_fec.specs.Shifting.{over_x, over_pow}
+use Rattle.fire_fec.specs.kept.Shifting.{over_x, over_pow}
 use Rattle.fire_fec.proofs.Blocks.{over_x-is}
 use Rattle.fire_fec.proofs.TrappedByDividing.{over_pow-more, trapped_after, trapped_nowhere}
 use Rattle.fire_fec.proofs.burst.burst_of.Goals as goal

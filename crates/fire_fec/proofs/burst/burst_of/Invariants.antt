@@ -1,5 +1,5 @@
 use Rattle.std.proofs.Common.{◌≡◌, ◌≢◌, ℕ, ◌+◌, ◌/◌, ◌^◌, ◌<◌, ◌≤◌}
-use Rattle.fire_fec.specs.Shifting.{over_pow}
+use Rattle.fire_fec.specs.kept.Shifting.{over_pow}
 use Rattle.fire_fec.proofs.burst.burst_of.Given as goal
 
 abbrev pub invariant-loop-shifts : goal.invariant-loop-shifts

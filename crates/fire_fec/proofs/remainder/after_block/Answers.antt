@@ -1,7 +1,7 @@
 use Rattle.std.proofs.Common.{◌≡◌, ℕ, ◌*◌, ◌%◌, ◌^◌, sym, ◌∙◌, ap, arith, bit_xor}
 use Rattle.jesd_base.specs.Bits.{bits, value}
 use Rattle.fire_fec.specs.Burst.{parity}
-use Rattle.fire_fec.specs.Taking.{block_taken}
+use Rattle.fire_fec.specs.kept.Taking.{block_taken}
 use Rattle.fire_fec.proofs.Blocks.{block_taken-parity, block_taken-small, block_taken-sum, octets_taken-none, octet_more, octets_whole}
 use Rattle.fire_fec.proofs.remainder.after_block.Goals as goal
 

@@ -1,6 +1,6 @@
 use Rattle.std.proofs.Common.{◌≡◌, ◌%◌, ◌==◌, false, refl}
 use Rattle.std.proofs.lemmas.Bool.{ne_eqb}
-use Rattle.fire_fec.specs.Shifting.{over_x}
+use Rattle.fire_fec.specs.kept.Shifting.{over_x}
 use Rattle.fire_fec.proofs.Carried.{over_x_small}
 use Rattle.fire_fec.proofs.trap.over_x.Goals as goal
 

@@ -3,7 +3,7 @@ use Rattle.std.proofs.lemmas.Bool.{cond-true}
 use Rattle.std.proofs.lemmas.List.{length-map, length-replicate}
 use Rattle.link_params.specs.declared.cells.LaneCell.{LaneCell}
 use Rattle.link_params.specs.Lanes.{Entry, Placed, Held, Taken, is_inside}
-use Rattle.lane_b.specs.LaneLaws.{FirstEntry, NoneOutside, PlacesThenData}
+use Rattle.lane_b.specs.laws.LaneLaws.{FirstEntry, NoneOutside, PlacesThenData}
 use Rattle.lane_b.specs.Locking.{no_order}
 use Rattle.lane_b.specs.Loss.{ilas_length}
 use Rattle.lane_b.proofs.LaneEntries.{are-entries, next-started, next-unstarted, no-entries}

@@ -1,7 +1,7 @@
 use Rattle.std.proofs.Common.{◌≡◌, ◌≤◌, ◌<◌, ◌+◌, ◌-◌, ◌^◌, ◌==◌, false, ℕ, take}
 use Rattle.std.specs.Int.{bit_at}
 use Rattle.line_model.specs.LineBits.{is_flipped}
-use Rattle.line_model.specs.Lines.{arrived}
+use Rattle.line_model.specs.kept.Lines.{arrived}
 use Rattle.line_model.proofs.line.flip_mask.Given as goal
 
 abbrev pub invariant-loop-k : goal.invariant-loop-k

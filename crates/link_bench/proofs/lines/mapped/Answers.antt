@@ -1,11 +1,11 @@
 use Rattle.std.proofs.Common.{◌≡◌, ℕ, [], ◌+◌, ◌*◌, ◌-◌, ◌<◌, ◌∙◌, length, take, drop, sym, ap, ap₂, arith}
 use Rattle.sample_map.specs.Layout.{IsFrame}
-use Rattle.link_bench.specs.Lines.{pieces, octets_line}
+use Rattle.link_bench.specs.Lines.{pieces_of, octets_line}
 use Rattle.link_bench.proofs.LineLemmas.{frames-more, slice-below, written-back, frame-within}
 use Rattle.link_bench.proofs.lines.mapped.Goals as goal
 
 pub loop-frame-init : goal.loop-frame-init
-unfolding pieces
+unfolding pieces_of
 loop-frame-init c =
     record {
       octets = c.in_ok-octets.ensures

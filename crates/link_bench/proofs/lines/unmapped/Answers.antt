@@ -1,11 +1,11 @@
 use Rattle.std.proofs.Common.{◌≡◌, [], ◌+◌, ◌*◌, ◌-◌, ◌∙◌, length, take, drop, sym, ap, ap₂}
 use Rattle.sample_map.specs.Layout.{AreWords}
-use Rattle.link_bench.specs.Lines.{pieces, frame_line}
+use Rattle.link_bench.specs.Lines.{pieces_of, frame_line}
 use Rattle.link_bench.proofs.LineLemmas.{frames-more, written-back}
 use Rattle.link_bench.proofs.lines.unmapped.Goals as goal
 
 pub loop-frame-init : goal.loop-frame-init
-unfolding pieces
+unfolding pieces_of
 loop-frame-init c =
     record {
       words = c.in_ok-words.ensures ∙ c.frame_words.ensures.value;

@@ -2,7 +2,7 @@ use Rattle.std.proofs.Common.{◌≡◌, ◌*◌, ◌∷◌, ◌++◌, [], ◌�
 use Rattle.std.specs.Prelude.{if◌then◌else◌}
 use Rattle.std.proofs.lemmas.List.Elements.{All-push}
 use Rattle.link_params.specs.declared.cells.Mark.TheVariants.{Ok as Good}
-use Rattle.link_run.specs.Gathered.{Whole}
+use Rattle.link_run.specs.kept.Gathered.{Whole}
 use Rattle.link_run.proofs.deframer.open_frames.Goals as goal
 
 pub loop-preserved : goal.loop-preserved

@@ -1,6 +1,6 @@
 use Rattle.std.proofs.Common.{◌≡◌, ◌*◌, length}
 use Rattle.std.specs.Prelude.{All}
-use Rattle.link_run.specs.Gathered.{Whole}
+use Rattle.link_run.specs.kept.Gathered.{Whole}
 use Rattle.link_run.proofs.deframer.open_frames.Given as goal
 
 abbrev pub invariant-loop : goal.invariant-loop

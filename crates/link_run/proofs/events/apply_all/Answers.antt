@@ -3,7 +3,7 @@ use Rattle.std.proofs.lemmas.List.{take_all}
 use Rattle.link_params.specs.declared.alarms.Device.TheVariants.{Tx}
 use Rattle.scenario.specs.declared.plan.Event.{Event}
 use Rattle.scenario.specs.declared.plan.What.TheVariants.{Reset}
-use Rattle.link_run.specs.LaneRuns.{HaveRun}
+use Rattle.link_run.specs.kept.LaneRuns.{HaveRunLanes}
 use Rattle.link_run.proofs.EventLemmas.{after, applied-more, applied-none}
 use Rattle.link_run.proofs.events.apply_all.Goals as goal
 
@@ -35,5 +35,5 @@ pub returns-clause-goes_on : goal.returns-clause-goes_on
 returns-clause-goes_on c s runs run =
     let all : take c.loop-event.event-index c.args.events.now ≡ c.args.events.now =
     take_all c.loop-event.event-index c.args.events.now (omega arith) in
-    subst (λ es. HaveRun c.loop-event.lanes s (λ lane. after es lane (runs lane))) all
+    subst (λ es. HaveRunLanes c.loop-event.lanes s (λ lane. after es lane (runs lane))) all
     (c.loop-event.invariant.goes_on s runs run)

@@ -3,7 +3,7 @@ use Rattle.std.specs.List.{list_any}
 use Rattle.link_params.specs.declared.alarms.Device.TheVariants.{Tx, Rx}
 use Rattle.scenario.specs.declared.plan.Event.{Event}
 use Rattle.link_model.specs.Edges.{resets}
-use Rattle.link_run.specs.LaneRuns.{HaveRun}
+use Rattle.link_run.specs.kept.LaneRuns.{HaveRunLanes}
 use Rattle.link_run.proofs.EventLemmas.{after, after-happens, fit-plan, have-plan, part-is, passed, plan-ascends, reset-is}
 use Rattle.link_run.proofs.PlanFacts.{plan-facts}
 use Rattle.link_run.proofs.events.happen.Goals as goal
@@ -66,5 +66,5 @@ returns-clause-lanes c plan runs is run before =
     (c.requires.from plan is) c.end_of-next.ensures.end in
     after-happens c.apply_all.new.lanes plan c.args.t runs (plan-ascends c.args.s.now plan is)
     before
-    (subst (λ es. HaveRun c.apply_all.new.lanes plan (λ lane. after es lane (runs lane))) part
+    (subst (λ es. HaveRunLanes c.apply_all.new.lanes plan (λ lane. after es lane (runs lane))) part
     (c.apply_all.ensures.goes_on plan runs run))

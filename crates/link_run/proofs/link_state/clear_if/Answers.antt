@@ -1,5 +1,5 @@
 use Rattle.std.proofs.Common.{[], if◌then◌else◌, None, sym, ap, subst}
-use Rattle.link_run.specs.LaneRuns.{AreAt}
+use Rattle.link_run.specs.kept.LaneRuns.{AreAt}
 use Rattle.link_run.proofs.LaneStates.{have-same}
 use Rattle.link_run.proofs.link_state.clear_if.Goals as goal
 

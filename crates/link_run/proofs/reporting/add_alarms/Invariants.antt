@@ -1,9 +1,9 @@
 use Rattle.std.proofs.Common.{◌≡◌, ◌≤◌, ◌++◌, List, length, map, Some, take}
 use Rattle.scenario.specs.declared.report_row.Row.TheVariants as row
 use Rattle.scenario.specs.Plans.{Plan, plan_of}
-use Rattle.link_run.specs.Printing.{HasPrinted}
+use Rattle.link_run.specs.kept.Printing.{HasPrinted}
 use Rattle.link_model.specs.Report.{Printed, bares}
-use Rattle.link_run.specs.TickCounts.{with_alarms}
+use Rattle.link_run.specs.kept.TickCounts.{with_alarms}
 use Rattle.link_run.proofs.reporting.add_alarms.Given as goal
 
 abbrev pub invariant-loop-i : goal.invariant-loop-i

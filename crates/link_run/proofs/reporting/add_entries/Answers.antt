@@ -5,8 +5,8 @@ use Rattle.link_model.specs.Report.{enter_rows, prints_all}
 use Rattle.link_model.specs.Sends.{begins_frame}
 use Rattle.scenario.specs.declared.report_row.Totals.{Totals}
 use Rattle.scenario.specs.Plans.{numbers_from}
-use Rattle.link_run.specs.Printing.{HasPrinted}
-use Rattle.link_run.specs.TickCounts.{entered_at}
+use Rattle.link_run.specs.kept.Printing.{HasPrinted}
+use Rattle.link_run.specs.kept.TickCounts.{entered_at}
 use Rattle.link_run.proofs.TickRows.{entered-begins, entered-not, entered_first, entries-shown, few-entered, few-entered-at, shown-none}
 use Rattle.link_run.proofs.reporting.add_entries.Goals as goal
 use Rattle.link_run.proofs.reporting.add_entries.Goals.{then-per_tick-place-eq0+in_ok-enter, else-per_tick-place-eq0}

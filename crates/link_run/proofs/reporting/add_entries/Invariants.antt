@@ -1,6 +1,6 @@
 use Rattle.std.proofs.Common.{◌≡◌, ◌≤◌, ◌+◌, ◌++◌, [], if◌then◌else◌, List, length, Some}
 use Rattle.scenario.specs.Plans.{Plan, plan_of}
-use Rattle.link_run.specs.Printing.{HasPrinted}
+use Rattle.link_run.specs.kept.Printing.{HasPrinted}
 use Rattle.link_model.specs.Report.{Printed, enter_rows, prints_all}
 use Rattle.link_run.proofs.TickRows.{entered_first}
 use Rattle.link_run.proofs.reporting.add_entries.Given as goal

@@ -8,9 +8,9 @@ use Rattle.link_params.specs.declared.fields.Params.{Params}
 use Rattle.scenario.specs.declared.report_row.Totals.{Totals}
 use Rattle.link_model.specs.Report.{is_bad, is_fixed, is_ok, prints_frames}
 use Rattle.scenario.specs.Plans.{numbers_from}
-use Rattle.link_run.specs.Gathered.{Whole, no_frame}
-use Rattle.link_run.specs.Printing.{HasPrinted, counted_mark}
-use Rattle.link_run.specs.TickCounts.{with_marks}
+use Rattle.link_run.specs.kept.Gathered.{Whole, no_frame}
+use Rattle.link_run.specs.kept.Printing.{HasPrinted, counted_mark}
+use Rattle.link_run.specs.kept.TickCounts.{with_marks}
 use Rattle.link_run.proofs.PrintedRows.{link_of_plan}
 use Rattle.link_run.proofs.TickRows.{leaving-shown, leaving_rows, marks-counted, none-counted, shown-none}
 use Rattle.link_run.proofs.reporting.add_frames.Goals as goal

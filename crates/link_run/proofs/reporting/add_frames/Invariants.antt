@@ -1,8 +1,8 @@
 use Rattle.std.proofs.Common.{◌≡◌, ◌≤◌, ◌+◌, ◌*◌, ◌++◌, [], if◌then◌else◌, List, map, take, Some}
 use Rattle.scenario.specs.Plans.{Plan, plan_of}
-use Rattle.link_run.specs.Gathered.{Whole}
-use Rattle.link_run.specs.Printing.{HasPrinted}
-use Rattle.link_run.specs.TickCounts.{with_marks}
+use Rattle.link_run.specs.kept.Gathered.{Whole}
+use Rattle.link_run.specs.kept.Printing.{HasPrinted}
+use Rattle.link_run.specs.kept.TickCounts.{with_marks}
 use Rattle.link_model.specs.Report.{Printed, prints_frames}
 use Rattle.link_run.proofs.TickRows.{leaving_rows}
 use Rattle.link_run.proofs.reporting.add_frames.Given as goal

@@ -5,9 +5,9 @@ use Rattle.scenario.specs.declared.report_row.Totals.{Totals}
 use Rattle.link_params.specs.declared.alarms.Device.TheVariants.{Tx, Rx}
 use Rattle.link_model.specs.Kinds.{moment_of}
 use Rattle.link_model.specs.Report.{off_alarm, totals}
-use Rattle.link_run.specs.TickCounts.{with_alarms}
-use Rattle.link_run.specs.Reported.{rows_so_far}
-use Rattle.link_run.specs.Printing.{HasPrinted}
+use Rattle.link_run.specs.kept.TickCounts.{with_alarms}
+use Rattle.link_run.specs.kept.Reported.{rows_so_far}
+use Rattle.link_run.specs.kept.Printing.{HasPrinted}
 use Rattle.link_run.proofs.PrintedRows.{link_of_plan}
 use Rattle.link_run.proofs.TickRows.{seen-counts, seen-rows, seen_counts, seen_rows}
 use Rattle.link_run.proofs.reporting.report_tick.Goals as goal

@@ -3,7 +3,7 @@ use Rattle.scenario.specs.declared.report_row.Row.TheVariants as row
 use Rattle.link_model.specs.Kinds.{run_of}
 use Rattle.link_model.specs.Report.{bare, lines, report, rows, totals}
 use Rattle.link_model.specs.Run.{run as history}
-use Rattle.link_run.specs.Reported.{rows_so_far}
+use Rattle.link_run.specs.kept.Reported.{rows_so_far}
 use Rattle.link_run.proofs.LaneStates.{plan-there}
 use Rattle.link_run.proofs.PlanFacts.{plan-facts}
 use Rattle.link_run.proofs.runs.run.Goals as goal

@@ -1,8 +1,8 @@
 use Rattle.std.proofs.Common.{◌≡◌, ◌*◌, Some}
 use Rattle.scenario.specs.Plans.{Plan, plan_of}
 use Rattle.link_model.specs.Kinds.{run_of}
-use Rattle.link_run.specs.LinkStates.{HasRun}
-use Rattle.link_run.specs.Reported.{AreFew, HasReported}
+use Rattle.link_run.specs.kept.LinkStates.{HasRun}
+use Rattle.link_run.specs.kept.Reported.{AreFew, HasReported}
 use Rattle.link_run.proofs.runs.run.Given as goal
 
 abbrev pub invariant-loop-t : goal.invariant-loop-t

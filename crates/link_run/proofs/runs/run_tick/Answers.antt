@@ -3,8 +3,8 @@ use Rattle.std.specs.Prelude.{All}
 use Rattle.link_model.proofs.RunTicks.{length-run}
 use Rattle.link_model.specs.Kinds.{kind_of, run_of}
 use Rattle.link_model.specs.Report.{totals}
-use Rattle.link_run.specs.Gathered.{Whole}
-use Rattle.link_run.specs.Reported.{IsSeen}
+use Rattle.link_run.specs.kept.Gathered.{Whole}
+use Rattle.link_run.specs.kept.Reported.{IsSeen}
 use Rattle.link_run.proofs.FeedLemmas.{same_params}
 use Rattle.link_run.proofs.LaneStates.{plan-there}
 use Rattle.link_run.proofs.TickFacts.{run-next}

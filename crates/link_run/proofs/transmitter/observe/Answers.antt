@@ -3,11 +3,11 @@ use Rattle.link_params.specs.declared.alarms.Device.TheVariants.{Tx}
 use Rattle.link_params.specs.declared.fields.Params.{Params}
 use Rattle.link_params.specs.Numbers.{period}
 use Rattle.link_model.proofs.TxHistory.{observed-at-next, observed-next}
-use Rattle.link_model.specs.Before.{levels_after, observed_before}
+use Rattle.link_model.specs.kept.Before.{levels_after, observed_before}
 use Rattle.link_model.specs.Edges.{is_reset}
 use Rattle.link_model.specs.Orders.{Observed, tx_order}
 use Rattle.link_model.specs.Sends.{observed, order_of}
-use Rattle.link_run.specs.Sendings.{HasObserved}
+use Rattle.link_run.specs.kept.Sendings.{HasObserved}
 use Rattle.link_run.proofs.transmitter.observe.Goals as goal
 
 pub returns-clause-observes : goal.returns-clause-observes

@@ -2,7 +2,7 @@ use Rattle.std.proofs.Common.{◌≡◌, ◌≤◌, ◌<◌, ◌+◌, ◌-◌, �
 use Rattle.std.proofs.lemmas.List.{take_more_set, take_all}
 use Rattle.scenario.specs.declared.cause.Cause.TheVariants as cause
 use Rattle.scenario.specs.Check.{lowest, fault}
-use Rattle.scenario.specs.Reads.{texts_of, are_numbers, numbers_from, field, num}
+use Rattle.scenario.specs.Reads.{texts_of, are_numbers, numbers_in_fields, field, num}
 use Rattle.scenario.specs.Text.{number}
 use Rattle.scenario.proofs.ReadLemmas.{numbers_from-more, lowest-number, lowest-unread, lowest-no_numbers, is_number-Some, is_number-None, num-Some}
 use Rattle.scenario.proofs.row.read_numbers.Goals as goal
@@ -23,7 +23,7 @@ loop-slot-preserved c =
       omega (arith, inv.0),
       take_more_set ns i c.in-Some.n lt
           ∙ (rw (inv.1, n) (sym (numbers_from-more i c.args.from ts)
-          ∙ ap (λ k. numbers_from c.args.from k ts) (sym (add-one i)))),
+          ∙ ap (λ k. numbers_in_fields c.args.from k ts) (sym (add-one i)))),
       rw length-set
           (lowest-number m c.loop-slot.at ts
           (is_number-Some (field ts c.loop-slot.at) c.in-Some.n is)
@@ -56,5 +56,5 @@ returns c =
     omega (arith, c.loop-slot.auto.numbers, c.loop-slot.auto.slot-index-end) in
     let is : i ≡ length ns = omega arith in (
       sym inv.2 ∙ lowest-no_numbers (length ns - i) c.loop-slot.at ts (omega arith),
-      sym (take_all i ns ge) ∙ inv.1 ∙ ap (λ k. numbers_from c.args.from k ts) is,
+      sym (take_all i ns ge) ∙ inv.1 ∙ ap (λ k. numbers_in_fields c.args.from k ts) is,
     )

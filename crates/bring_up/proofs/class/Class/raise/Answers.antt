@@ -1,7 +1,7 @@
 use Rattle.std.proofs.Common.{◌≡◌, ◌∷◌, [], ◌++◌, List, sym, ◌∙◌, ap, arith, append-nil, length-append}
 use Rattle.std.proofs.lemmas.Grind.{common_steps}
 use Rattle.link_params.specs.declared.alarms.Alarm.{Alarm}
-use Rattle.bring_up.specs.Classes.{class_alarm, listed}
+use Rattle.bring_up.specs.kept.Classes.{class_alarm, listed}
 use Rattle.bring_up.specs.Decisions.{alarms_from}
 use Rattle.bring_up.proofs.Raising.{raised-next}
 use Rattle.bring_up.proofs.class.Class.raise.Goals as goal

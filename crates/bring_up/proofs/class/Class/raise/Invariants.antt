@@ -1,5 +1,5 @@
 use Rattle.std.proofs.Common.{◌≡◌, ◌≤◌, ◌+◌, ◌++◌, length, take}
-use Rattle.bring_up.specs.Classes.{class_alarm}
+use Rattle.bring_up.specs.kept.Classes.{class_alarm}
 use Rattle.bring_up.specs.Decisions.{alarms_from}
 use Rattle.bring_up.proofs.class.Class.raise.Given as goal
 

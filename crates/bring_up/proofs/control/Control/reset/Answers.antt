@@ -1,6 +1,6 @@
 use Rattle.std.proofs.Common.{refl, ap, ◌∙◌}
 use Rattle.bring_up.specs.Decisions.{standing_from}
-use Rattle.bring_up.specs.Controls.{Controller}
+use Rattle.bring_up.specs.kept.Controls.{Controller}
 use Rattle.bring_up.proofs.control.Control.reset.Goals as goal
 
 pub returns : goal.returns

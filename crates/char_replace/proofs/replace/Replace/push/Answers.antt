@@ -1,5 +1,5 @@
 use Rattle.std.proofs.Common.{◌≡◌, sym, ap, refl}
-use Rattle.char_replace.specs.Kept.{Sender}
+use Rattle.char_replace.specs.kept.Ends.{Sender}
 use Rattle.char_replace.proofs.Replacing.{replaced-push_inside, replaced-push_end}
 use Rattle.char_replace.proofs.replace.Replace.push.Goals as goal
 

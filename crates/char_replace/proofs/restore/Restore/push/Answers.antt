@@ -1,5 +1,5 @@
 use Rattle.std.proofs.Common.{◌≡◌, sym, ap, refl}
-use Rattle.char_replace.specs.Kept.{Receiver}
+use Rattle.char_replace.specs.kept.Ends.{Receiver}
 use Rattle.char_replace.proofs.RestoringSteps.{restored-push_inside, restored-push_end}
 use Rattle.char_replace.proofs.restore.Restore.push.Goals as goal
 

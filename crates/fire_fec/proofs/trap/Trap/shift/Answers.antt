@@ -1,5 +1,5 @@
 use Rattle.std.proofs.Common.{◌∙◌, ap}
-use Rattle.fire_fec.specs.Taking.{times_power}
+use Rattle.fire_fec.specs.kept.Taking.{times_power}
 use Rattle.fire_fec.proofs.Blocks.{times_power-over_x}
 use Rattle.fire_fec.proofs.trap.Trap.shift.Goals as goal
 

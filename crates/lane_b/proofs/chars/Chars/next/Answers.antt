@@ -1,7 +1,7 @@
 use Rattle.std.proofs.Common.{◌∙◌, ap, ℕ}
 use Rattle.jesd_base.specs.Bits.{bits, value}
 use Rattle.code_8b10b.specs.Code.{after}
-use Rattle.lane_b.specs.Across.{ten_across}
+use Rattle.lane_b.specs.kept.Across.{ten_across}
 use Rattle.lane_b.proofs.AcrossLemmas.{across-value, across-below}
 use Rattle.lane_b.proofs.chars.Chars.next.Goals as goal
 

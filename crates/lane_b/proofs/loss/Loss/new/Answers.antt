@@ -1,5 +1,5 @@
 use Rattle.std.proofs.Common.{refl}
-use Rattle.lane_b.specs.Counts.{number, misplaced_after}
+use Rattle.lane_b.specs.kept.Counts.{number, misplaced_after}
 use Rattle.lane_b.specs.Loss.{some_rest}
 use Rattle.lane_b.proofs.loss.Loss.new.Goals as goal
 

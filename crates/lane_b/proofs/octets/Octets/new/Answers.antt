@@ -1,6 +1,6 @@
 use Rattle.std.proofs.Common.{refl}
 use Rattle.lane_b.specs.Received.{restored}
-use Rattle.lane_b.specs.Cells.{last_of, last_but_one_of}
+use Rattle.lane_b.specs.kept.Cells.{last_of, last_but_one_of}
 use Rattle.lane_b.proofs.octets.Octets.new.Goals as goal
 
 pub returns : goal.returns

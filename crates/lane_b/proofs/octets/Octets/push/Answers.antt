@@ -5,7 +5,7 @@ use Rattle.jesd_base.specs.Bits.{bits}
 use Rattle.link_params.specs.declared.fields.Params.{Params}
 use Rattle.link_params.specs.declared.cells.LaneCell.{LaneCell}
 use Rattle.lane_b.specs.Received.{restored, marked, data_cells}
-use Rattle.lane_b.specs.Cells.{octets_read, bad_read, last_of, last_but_one_of}
+use Rattle.lane_b.specs.kept.Cells.{octets_read, bad_read, last_of, last_but_one_of}
 use Rattle.lane_b.proofs.Restored.{fault-due, restored-push}
 use Rattle.lane_b.proofs.Giving.{octets-push, bad-push, bits_of-push, last-push, last_but_one-push, cell-plain, cell-scrambled}
 use Rattle.lane_b.proofs.octets.Octets.push.Goals as goal

@@ -1,5 +1,5 @@
 use Rattle.std.proofs.Common.{◌≡◌, ◌∙◌, ap, sym, arith, ◌-◌, ◌<◌, suc}
-use Rattle.lane_b.specs.Gives.{given}
+use Rattle.lane_b.specs.kept.Gives.{given}
 use Rattle.lane_b.specs.Received.{entries_b}
 use Rattle.lane_b.proofs.BufferLemmas.{oldest-place, oldest-cell}
 use Rattle.lane_b.proofs.receiver.RxLaneB.give.Goals as goal

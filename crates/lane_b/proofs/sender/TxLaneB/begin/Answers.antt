@@ -2,8 +2,8 @@ use Rattle.std.proofs.Common.{◌≡◌, [], sym, ◌∙◌, ap, subst}
 use Rattle.std.proofs.Math.Nat.{zero-mod}
 use Rattle.link_params.specs.declared.fields.Params.{Params}
 use Rattle.link_params.specs.Numbers.{period}
-use Rattle.char_replace.specs.Kept.{HasReplaced}
-use Rattle.lane_b.specs.Senders.{Sender}
+use Rattle.char_replace.specs.kept.Ends.{HasReplaced}
+use Rattle.lane_b.specs.kept.Senders.{Sender}
 use Rattle.lane_b.proofs.CodedOctets.{carries-none}
 use Rattle.lane_b.proofs.sender.TxLaneB.begin.Goals as goal
 

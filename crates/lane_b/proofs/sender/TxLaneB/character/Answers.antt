@@ -1,7 +1,7 @@
 use Rattle.std.proofs.Common.{◌∷◌, [], ◌++◌, if◌then◌else◌, sym, ap, subst, arith}
 use Rattle.link_params.specs.declared.fields.Params.{Params}
 use Rattle.link_params.specs.declared.orders.TxOrder.{TxOrder}
-use Rattle.lane_b.specs.Senders.{Sender, MayGoOn}
+use Rattle.lane_b.specs.kept.Senders.{Sender, MayGoOn}
 use Rattle.lane_b.specs.Sent.{data_octets}
 use Rattle.lane_b.proofs.SentWords.{data_char-more, goes_on-more, other-char, other-next}
 use Rattle.lane_b.proofs.Spelled.{comma-spelled, ilas-spelled}

@@ -1,8 +1,8 @@
 use Rattle.std.proofs.Common.{◌≡◌, Bool, true, List, sym, ◌∙◌, ap, subst}
 use Rattle.std.specs.List.{flat_map}
 use Rattle.jesd_base.specs.Bits.{bits}
-use Rattle.lane_scramble.specs.Scramblers.{HasScrambled15}
-use Rattle.lane_b.specs.Senders.{Sender}
+use Rattle.lane_scramble.specs.kept.Scramblers.{HasScrambled15}
+use Rattle.lane_b.specs.kept.Senders.{Sender}
 use Rattle.lane_b.proofs.CodedOctets.{bits-more, coded-scrambled}
 use Rattle.lane_b.proofs.sender.TxLaneB.coded.Goals as goal
 

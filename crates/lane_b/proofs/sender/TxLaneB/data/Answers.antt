@@ -1,7 +1,7 @@
 use Rattle.std.proofs.Common.{◌≡◌, ℕ, suc, ◌%◌, List, ◌∷◌, [], ◌++◌, Bool, true, false, Option, Some, if◌then◌else◌, refl, ◌∙◌, ap, subst}
 use Rattle.link_params.specs.declared.fields.Params.{Params}
 use Rattle.link_params.specs.Numbers.{period}
-use Rattle.lane_b.specs.Senders.{Sender, GoesOn, MayGoOn}
+use Rattle.lane_b.specs.kept.Senders.{Sender, GoesOn, MayGoOn}
 use Rattle.lane_b.specs.Sent.{data_char}
 use Rattle.lane_b.proofs.NextOctet.{follows-first, goes_on-at, follows-next}
 use Rattle.lane_b.proofs.sender.TxLaneB.data.Goals.{then-first, else-first}

@@ -5,9 +5,9 @@ use Rattle.link_params.specs.declared.fields.Params.{Params}
 use Rattle.link_params.specs.Laws.{broken_law}
 use Rattle.link_params.specs.Numbers.{period}
 use Rattle.link_params.proofs.LawFacts.{legal_sizes}
-use Rattle.lane_scramble.specs.Scramblers.{HasScrambled15}
-use Rattle.char_replace.specs.Kept.{HasReplaced, Sender as Replacer}
-use Rattle.lane_b.specs.Senders.{Sender, GoesOn, Carries}
+use Rattle.lane_scramble.specs.kept.Scramblers.{HasScrambled15}
+use Rattle.char_replace.specs.kept.Ends.{HasReplaced, Sender as Replacer}
+use Rattle.lane_b.specs.kept.Senders.{Sender, GoesOn, Carries}
 use Rattle.lane_b.specs.Sent.{coded_octets, replaced}
 use Rattle.lane_b.proofs.CodedOctets.{length-coded, data_char-more, carries-more, place-more}
 use Rattle.lane_b.proofs.NextOctet.{is_placed-more, place-low, taken-spelled}
@@ -23,11 +23,11 @@ place_is : (c : goal.After-push) → c.place_after-next.result ≡ suc c.args.pl
 place_is c =
     let same : c.shape.result ≡ c.args.self.now.params = c.shape.ensures.same ∙ ap (λ (s : Sender). s.params) c.self.view_is in
     let next : c.self.inside.next ≡ Some c.args.place =
-        ap (λ (s : Sender). s.next) c.self.view_is ∙ c.requires in
+    ap (λ (s : Sender). s.next) c.self.view_is ∙ c.requires in
     let size : c.period.result ≡ period c.self.inside.link.params =
-        c.period.ensures.value ∙ ap period c.shape.ensures.same in
+    c.period.ensures.value ∙ ap period c.shape.ensures.same in
     let low : c.args.place < c.period.result = place-low _ _ _ _ _ c.self.invariant.2 next
-        (omega (arith, c.period.ensures.low)) size in
+    (omega (arith, c.period.ensures.low)) size in
     c.place_after-next.ensures low ∙ ap (λ (n : ℕ). suc c.args.place % n) (c.period.ensures.value ∙ ap period same)
 
 some_octets : (c : goal.After-push) → 1 ≤ c.args.self.now.params.f

@@ -1,5 +1,5 @@
 use Rattle.std.proofs.Common.{refl}
-use Rattle.lane_b.specs.Senders.{rd_after}
+use Rattle.lane_b.specs.kept.Senders.{rd_after}
 use Rattle.lane_b.specs.Sent.{sent_words, chars_after, spelled}
 use Rattle.lane_b.proofs.sender.TxLaneB.new.Goals as goal
 

@@ -3,7 +3,7 @@ use Rattle.link_params.specs.Lanes.{Handed}
 use Rattle.code_8b10b.specs.declared.character.Rd.{Rd}
 use Rattle.code_8b10b.specs.Code.{spelling}
 use Rattle.code_8b10b.proofs.Spellings.{ten_bits}
-use Rattle.lane_b.specs.Senders.{Sender, HasSent}
+use Rattle.lane_b.specs.kept.Senders.{Sender, HasSent}
 use Rattle.lane_b.proofs.Spelled.{encoded, words}
 use Rattle.lane_b.proofs.Ticks.{tick-word, tick-sent}
 use Rattle.lane_b.proofs.sender.TxLaneB.tick.Goals as goal

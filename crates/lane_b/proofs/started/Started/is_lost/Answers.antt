@@ -1,6 +1,6 @@
 use Rattle.std.proofs.Common.{ap, ◌∙◌}
 use Rattle.lane_b.specs.Loss.{is_lost}
-use Rattle.lane_b.specs.Starts.{Reader}
+use Rattle.lane_b.specs.kept.Starts.{Reader}
 use Rattle.lane_b.proofs.started.Started.is_lost.Goals as goal
 
 pub returns : goal.returns

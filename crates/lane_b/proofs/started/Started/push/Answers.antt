@@ -2,9 +2,9 @@ use Rattle.std.proofs.Common.{◌≡◌, ℕ, ◌+◌, ◌%◌, ◌≤◌, [], �
 use Rattle.link_params.specs.declared.fields.Params.{Params}
 use Rattle.link_params.specs.Lanes.{Placed, Held}
 use Rattle.link_params.specs.Numbers.{period}
-use Rattle.char_replace.specs.Kept.{IsSerial}
+use Rattle.char_replace.specs.kept.Ends.{IsSerial}
 use Rattle.lane_b.specs.Loss.{alignment_at, alignments_from, faults_from, ilas_length, is_wrong_in_ilas}
-use Rattle.lane_b.specs.Starts.{next_place}
+use Rattle.lane_b.specs.kept.Starts.{next_kept_place}
 use Rattle.lane_b.proofs.KeptPlaces.{kept-in_ilas, kept-low, kept-past}
 use Rattle.lane_b.proofs.Starting.{data-more, data-none, data-place, entries-held, entries-placed, fault-in_data, fault-in_ilas, has_read-next, state-not_done, state-stays}
 use Rattle.lane_b.proofs.started.Started.push.Goals as goal
@@ -29,7 +29,7 @@ returns-then-place-period-clause-goes_on c = λ p lane since h.
     ∙ ap (λ (x : ℕ). is_wrong_in_ilas p x c.args.reading) place ∙ sym (fault-in_ilas p n c.args.reading short) in
     let alignment = c.alignment_at-alignment.ensures
     ∙ ap (λ (q : Params). alignment_at q c.self.inside.place c.args.reading) (c.shape-shape.ensures.same ∙ same) in
-    let next = c.next_place-self-inside.ensures.value ∙ ap (λ (x : ℕ). next_place x c.self.inside.place) size in
+    let next = c.next_place-self-inside.ensures.value ∙ ap (λ (x : ℕ). next_kept_place x c.self.inside.place) size in
     let some : 1 ≤ period p = omega (arith, size, c.period-period.ensures.low) in
     let state = c.push-self-inside.ensures.answer p lane since (was.check short) in
     has_read-next _ _ p lane since c.args.reading _ _ (rw same at serial) some was same next fault alignment
@@ -58,7 +58,7 @@ returns-clause-goes_on c = λ p lane since h.
     let fault = c.push-given.ensures.fault p (drop (ilas_length p) since) was.octets at ∙ sym (fault-in_data p since c.args.reading past) in
     let alignment = c.alignment_at-alignment.ensures
     ∙ ap (λ (q : Params). alignment_at q c.self.inside.place c.args.reading) (c.shape-shape.ensures.same ∙ same) in
-    let next = c.next_place-self-inside.ensures.value ∙ ap (λ (x : ℕ). next_place x c.self.inside.place) size in
+    let next = c.next_place-self-inside.ensures.value ∙ ap (λ (x : ℕ). next_kept_place x c.self.inside.place) size in
     let some : 1 ≤ period p = omega (arith, size, c.period-period.ensures.low) in
     let long : length (since ++ c.args.reading ∷ []) ≡ length since + 1 = length-append since (c.args.reading ∷ []) in
     has_read-next _ _ p lane since c.args.reading _ _ (rw same at serial) some was same next fault alignment

@@ -1,5 +1,5 @@
 use Rattle.std.proofs.Common.{Bool, [], ◌∷◌, ◌++◌, ◌||◌, false, if◌then◌else◌, ◌∙◌, ap, refl}
-use Rattle.lane_c.specs.Counts.{Counter, was_lost, with_ended}
+use Rattle.lane_c.specs.kept.Counts.{Counter, was_lost, with_ended}
 use Rattle.lane_c.proofs.Counting.{counted-next, newly}
 use Rattle.lane_c.proofs.loss.Loss.push.Goals as goal
 

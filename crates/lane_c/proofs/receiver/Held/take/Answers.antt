@@ -9,7 +9,7 @@ use Rattle.link_params.specs.Numbers.{period}
 use Rattle.multiblock.specs.Places.{next_place}
 use Rattle.lane_c.specs.declared.receiver.Held.{Held}
 use Rattle.lane_c.specs.Locking.{bits_taken}
-use Rattle.lane_c.specs.Receivers.{start_at}
+use Rattle.lane_c.specs.kept.Receivers.{start_at}
 use Rattle.lane_c.proofs.Dropping.{as-read, dropping, not-started}
 use Rattle.lane_c.proofs.Entering.{does-on}
 use Rattle.lane_c.proofs.Firsts.{first-now}

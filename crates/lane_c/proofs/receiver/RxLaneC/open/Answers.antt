@@ -1,6 +1,6 @@
 use Rattle.std.proofs.Common.{[], ◌∙◌, ap, refl, subst}
 use Rattle.link_params.specs.declared.fields.Params.{Params}
-use Rattle.multiblock.specs.Hunts.{HasHunted}
+use Rattle.multiblock.specs.kept.Hunts.{HasHunted}
 use Rattle.lane_c.proofs.Searching.{has_taken-nothing, hunts-on-start}
 use Rattle.lane_c.proofs.receiver.RxLaneC.open.Goals as goal
 

@@ -1,6 +1,6 @@
 use Rattle.std.proofs.Common.{◌∙◌, [], sym, subst}
 use Rattle.std.proofs.lemmas.Bool.{true≢false}
-use Rattle.lane_c.specs.Receivers.{HasTaken, Receiver}
+use Rattle.lane_c.specs.kept.Receivers.{HasTaken, Receiver}
 use Rattle.lane_c.proofs.receiver.RxLaneC.take.Goals.{then-order, else-order}
 use Rattle.lane_c.proofs.receiver.RxLaneC.take.Goals as goal
 

@@ -5,7 +5,7 @@ use Rattle.link_params.specs.declared.fields.Mode.TheVariants.{B}
 use Rattle.link_params.specs.declared.fields.Params.{Params}
 use Rattle.link_params.specs.Lanes.{Taken}
 use Rattle.lane_c.specs.Received.{entries_c}
-use Rattle.lane_c.specs.Receivers.{Holds, HoldsFirst, Hunts, Receiver}
+use Rattle.lane_c.specs.kept.Receivers.{Holds, HoldsFirst, Hunts, Receiver}
 use Rattle.std.proofs.lemmas.Bool.{true≢false}
 use Rattle.lane_c.proofs.Reporting.{inside-unplaced}
 use Rattle.lane_c.proofs.Searching.{holds-one-more, holds-same, hunts-none, hunts-on-more}

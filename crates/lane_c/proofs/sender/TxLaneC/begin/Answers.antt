@@ -7,7 +7,7 @@ use Rattle.link_params.specs.Laws.{broken_law}
 use Rattle.multiblock.specs.SyncWords.{sync_word}
 use Rattle.fire_fec.specs.Corrects.{payload_bits}
 use Rattle.lane_c.specs.Sent.{check}
-use Rattle.lane_c.specs.Senders.{IsReady, Sender}
+use Rattle.lane_c.specs.kept.Senders.{IsReady, Sender}
 use Rattle.lane_c.proofs.SenderSteps.{begun, check_due, some-multiblocks}
 use Rattle.lane_c.proofs.sender.TxLaneC.begin.Goals.{then-first, else-first}
 use Rattle.lane_c.proofs.sender.TxLaneC.begin.Goals as goal

@@ -4,7 +4,7 @@ use Rattle.link_params.specs.declared.fields.Mode.TheVariants.{B}
 use Rattle.link_params.specs.declared.fields.Params.{Params}
 use Rattle.link_params.specs.Numbers.{period}
 use Rattle.lane_c.specs.Sent.{blocks_of}
-use Rattle.lane_c.specs.Senders.{GoesOn, IsReady, MayGoOn, Sender}
+use Rattle.lane_c.specs.kept.Senders.{GoesOn, IsReady, MayGoOn, Sender}
 use Rattle.lane_c.proofs.SenderSteps.{ready-inside}
 use Rattle.lane_c.proofs.sender.TxLaneC.block.Goals.{then-place-eq0, else-place-eq0}
 use Rattle.lane_c.proofs.sender.TxLaneC.block.Goals as goal

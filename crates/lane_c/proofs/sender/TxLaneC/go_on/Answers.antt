@@ -5,9 +5,9 @@ use Rattle.link_params.specs.declared.fields.Mode.TheVariants.{B}
 use Rattle.link_params.specs.declared.fields.Params.{Params}
 use Rattle.link_params.specs.Numbers.{period}
 use Rattle.lane_scramble.specs.Scrambling.{scrambled58}
-use Rattle.lane_scramble.specs.Scramblers.{HasScrambled58}
+use Rattle.lane_scramble.specs.kept.Scramblers.{HasScrambled58}
 use Rattle.lane_c.specs.Sent.{payload_of}
-use Rattle.lane_c.specs.Senders.{GoesOn, IsReady, Sender}
+use Rattle.lane_c.specs.kept.Senders.{GoesOn, IsReady, Sender}
 use Rattle.lane_c.proofs.SentBlocks.{octets-more}
 use Rattle.lane_c.proofs.SenderSteps.{block-due, goes-on}
 use Rattle.lane_c.proofs.sender.TxLaneC.go_on.Goals as goal

@@ -1,6 +1,6 @@
 use Rattle.std.proofs.Common.{◌≡◌, ◌<◌, ◌+◌, ◌*◌, ◌/◌, ◌%◌, ◌^◌, ◌-◌, ◌∙◌, ap, ap₂, arith}
 use Rattle.std.proofs.lemmas.Nat.{mod_below, pow_pos}
-use Rattle.line_model.specs.Lines.{Kept, Ring}
+use Rattle.line_model.specs.kept.Lines.{Kept, Ring}
 use Rattle.line_model.proofs.LineLemmas.{carried-is}
 use Rattle.line_model.proofs.line.Line.carried.Goals as goal
 

@@ -2,7 +2,7 @@ use Rattle.std.proofs.Common.{◌≡◌, ◌∙◌, ◌++◌, true, false, ap, s
 use Rattle.std.proofs.lemmas.Nat.{xor_lt}
 use Rattle.jesd_base.specs.Bits.{bits}
 use Rattle.line_model.specs.LineBits.{Settings, line_word}
-use Rattle.line_model.specs.Lines.{Kept}
+use Rattle.line_model.specs.kept.Lines.{Kept}
 use Rattle.line_model.proofs.LineLemmas.{Stepped, step-answers, step-goes-on, nothing}
 use Rattle.line_model.proofs.line.Line.step.Goals as goal
 

@@ -3,7 +3,7 @@ use Rattle.std.specs.List.{AllPairs}
 use Rattle.std.proofs.lemmas.Bool.{cases_lt}
 use Rattle.std.proofs.lemmas.List.Kept.{AllPairs-from_increasing}
 use Rattle.line_model.specs.LineBits.{is_flipped}
-use Rattle.line_model.specs.Lines.{Kept, Counted, arrived}
+use Rattle.line_model.specs.kept.Lines.{Kept, Counted, arrived}
 use Rattle.line_model.proofs.LineLemmas.{Passes, counts-on, mask-is}
 use Rattle.line_model.proofs.line.Line.take_flips.Goals as goal
 

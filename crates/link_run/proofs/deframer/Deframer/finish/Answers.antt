@@ -7,7 +7,7 @@ use Rattle.link_params.specs.Laws.{broken_law}
 use Rattle.link_params.specs.Numbers.{octets_per_tick}
 use Rattle.sample_map.specs.Frames.{words_of}
 use Rattle.sample_map.specs.Layout.{AreWords}
-use Rattle.link_run.specs.Gathered.{Gathering, HaveFrameSizes, Whole}
+use Rattle.link_run.specs.kept.Gathered.{Gathering, HaveFrameSizes, Whole}
 use Rattle.link_run.proofs.deframer.Deframer.finish.Goals as goal
 
 -- there is a place for one more frame

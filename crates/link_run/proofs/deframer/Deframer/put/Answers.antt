@@ -4,7 +4,7 @@ use Rattle.std.proofs.lemmas.Nat.{mul-add-lt}
 use Rattle.link_params.specs.declared.cells.Mark.{Mark}
 use Rattle.link_params.specs.Numbers.{octets_per_tick}
 use Rattle.link_model.proofs.WholeFrames.{octet-is}
-use Rattle.link_run.specs.Gathered.{Gathering, octet_at}
+use Rattle.link_run.specs.kept.Gathered.{Gathering, octet_at}
 use Rattle.link_run.proofs.Gathering.{all-put, putting-more, putting-none, putting-nothing}
 use Rattle.link_run.proofs.deframer.Deframer.put.Goals as goal
 use Rattle.link_run.proofs.deframer.Deframer.put.Goals.{in-Some, in_default}

@@ -1,5 +1,5 @@
 use Rattle.std.proofs.Common.{take}
-use Rattle.link_run.specs.Gathered.{HasSizes}
+use Rattle.link_run.specs.kept.Gathered.{HasSizes}
 use Rattle.link_run.proofs.Gathering.{IsPutting}
 use Rattle.link_run.proofs.deframer.Deframer.put.Given as goal
 

@@ -1,6 +1,6 @@
 use Rattle.std.proofs.Common.{◌∙◌, [], ap, sym, arith}
 use Rattle.link_params.specs.Numbers.{octets_per_tick}
-use Rattle.link_run.specs.Gathered.{Gathering}
+use Rattle.link_run.specs.kept.Gathered.{Gathering}
 use Rattle.link_run.proofs.Gathering.{all-gave, all-taken, none-gave, taken-more, taken-none}
 use Rattle.link_run.proofs.deframer.Deframer.take.Goals as goal
 

@@ -1,7 +1,7 @@
 use Rattle.std.proofs.Common.{◌≡◌, ◌+◌, ◌*◌, ◌<◌, None, length, ap, subst, arith}
 use Rattle.link_params.specs.Laws.{broken_law}
 use Rattle.link_params.specs.Numbers.{octets_per_tick}
-use Rattle.link_run.specs.Gathered.{Gathering}
+use Rattle.link_run.specs.kept.Gathered.{Gathering}
 use Rattle.link_run.proofs.Gathering.{can-gather, gathers-whole, gathers-within}
 use Rattle.link_run.proofs.deframer.Deframer.take_octet.Goals as goal
 

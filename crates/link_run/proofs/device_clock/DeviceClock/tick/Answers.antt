@@ -1,10 +1,10 @@
 use Rattle.std.proofs.Common.{◌≡◌, ◌∙◌, ◌++◌, ◌∷◌, [], ◌==◌, List, Bool, refl, sym, ap, subst}
 use Rattle.link_params.specs.Numbers.{period}
 use Rattle.sysref_clock.specs.Clocks.{phase_after, off_after}
-use Rattle.sysref_clock.specs.Ticks.{HasTicked}
+use Rattle.sysref_clock.specs.kept.Ticks.{HasTicked}
 use Rattle.sysref_clock.specs.declared.clock_tick.ClockTick.{ClockTick}
 use Rattle.scenario.specs.Plans.{Plan}
-use Rattle.link_run.specs.Clocked.{Clocking, HasRunTo}
+use Rattle.link_run.specs.kept.Clocked.{Clocking, HasClocked}
 use Rattle.link_model.specs.Edges.{is_reset, edges}
 use Rattle.link_model.proofs.EdgeTicks.{IsRegular, taken}
 use Rattle.link_run.proofs.EdgeTicks.{regular, edges-kept, stays, moves}
@@ -25,19 +25,19 @@ before c =
     }
 
 record Known (c : goal.After-tick) (s : Plan) : Type 0 where
-  run : HasRunTo (before c) s c.args.t
+  run : HasClocked (before c) s c.args.t
   is_regular : IsRegular s
   edges_are : taken s (before c).device c.args.t c.args.reset ++ (c.args.t == (before c).tick)
       ∷ [] ≡ edges s (before c).device c.args.t
   ticked : HasTicked c.if-edge.self-inside.clock (period s.link.params)
       (taken s (before c).device c.args.t c.args.reset)
 
-known : (c : goal.After-tick) (s : Plan) → HasRunTo c.args.self.now s c.args.t
+known : (c : goal.After-tick) (s : Plan) → HasClocked c.args.self.now s c.args.t
     → s.jitters ≡ c.args.jitters.now
     → c.args.reset ≡ is_reset s c.args.self.now.device c.args.t → Known c s
 known c s run same is =
     let e : c.args.self.now ≡ before c = sym c.self.view_is in
-    let ran = subst (λ (x : Clocking). HasRunTo x s c.args.t) e run in
+    let ran = subst (λ (x : Clocking). HasClocked x s c.args.t) e run in
     let regular = regular s (before c) c.args.t c.self.invariant.0 (rw same c.requires.jitters)
     ran in
     let clock : c.if-edge.self-inside.clock ≡ c.clear_if.new.clock =

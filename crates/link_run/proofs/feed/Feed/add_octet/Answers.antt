@@ -2,7 +2,7 @@ use Rattle.std.proofs.Common.{◌≡◌, ◌<◌, length, sym, ap, ◌∙◌, ar
 use Rattle.std.proofs.lemmas.List.{get_or_default}
 use Rattle.std.proofs.lemmas.List.Elements.{All-get_or}
 use Rattle.link_run.proofs.Handing.{adds-all, adds-more, adds-none, below-more, in-frame}
-use Rattle.link_run.specs.Seen.{Fed}
+use Rattle.link_run.specs.kept.Seen.{Fed}
 use Rattle.link_run.proofs.feed.Feed.add_octet.Goals as goal
 
 pub loop-lane-init : goal.loop-lane-init

@@ -4,7 +4,7 @@ use Rattle.link_params.specs.Numbers.{octets_per_tick}
 use Rattle.link_params.specs.declared.fields.Params.{Params}
 use Rattle.link_run.proofs.FeedLemmas.{same_params}
 use Rattle.link_run.proofs.Handing.{fed-all, handed-all, handed-none, hands-more, hands-none, small-octets}
-use Rattle.link_run.specs.Seen.{Fed}
+use Rattle.link_run.specs.kept.Seen.{Fed}
 use Rattle.link_run.proofs.feed.Feed.hand.Goals as goal
 
 pub loop-j-init : goal.loop-j-init

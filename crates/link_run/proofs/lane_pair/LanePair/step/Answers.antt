@@ -1,5 +1,5 @@
 use Rattle.std.proofs.Common.{sym, ◌∙◌, subst}
-use Rattle.link_run.specs.LaneRuns.{HasRunLane, Pair, settings}
+use Rattle.link_run.specs.kept.LaneRuns.{HasRunLane, Pair, settings}
 use Rattle.link_run.proofs.PairLemmas.{lane-ticks}
 use Rattle.link_run.proofs.lane_pair.LanePair.step.Goals as goal
 

@@ -1,5 +1,5 @@
 use Rattle.std.proofs.Common.{[], List, None, ◌∙◌, ap, arith, get_or, length, refl, subst, sym}
-use Rattle.link_run.specs.LaneRuns.{AreAt, HaveRun, Pair}
+use Rattle.link_run.specs.kept.LaneRuns.{AreAt, HaveRunLanes, Pair}
 use Rattle.link_run.proofs.LaneLemmas.{IsCleared, are-at, changed-more, changed-none, have-run, written-back}
 use Rattle.link_run.proofs.lanes.Lanes.clear_tx.Goals as goal
 
@@ -31,7 +31,7 @@ returns-clause-goes_on c s runs run =
     (have-run IsCleared c.deref_mut-pair-items.result.now c.loop-pair.pair-items
     c.loop-pair.pair-index s runs (λ k. record (runs k) { handed = [] })
     c.loop-pair.invariant (omega arith) (λ k x y done. done.goes_on s k (runs k))
-    (subst (λ (l : List Pair). HaveRun l s runs) (sym old) run))
+    (subst (λ (l : List Pair). HaveRunLanes l s runs) (sym old) run))
 
 pub returns-clause-at : goal.returns-clause-at
 returns-clause-at c p next at =

@@ -1,6 +1,6 @@
 use Rattle.std.proofs.Common.{List, ◌∙◌, ap, ap₂, fold, map, max, refl, subst, sym}
 use Rattle.std.proofs.lemmas.List.{take_all}
-use Rattle.link_run.specs.LaneRuns.{HaveRun, Pair}
+use Rattle.link_run.specs.kept.LaneRuns.{HaveRunLanes, Pair}
 use Rattle.link_run.proofs.LaneLemmas.{all-held, held-more, held_in}
 use Rattle.link_run.proofs.lanes.Lanes.fullest.Goals as goal
 
@@ -22,4 +22,4 @@ returns c s runs run =
     ∙ ap (λ (l : List Pair). fold max c.args.most (map held_in l))
     (take_all c.loop-pair.pair-index lanes c.loop-pair-test.false)
     ∙ ap (fold max c.args.most)
-    (all-held lanes s runs (subst (λ (l : List Pair). HaveRun l s runs) (sym old) run))
+    (all-held lanes s runs (subst (λ (l : List Pair). HaveRunLanes l s runs) (sym old) run))

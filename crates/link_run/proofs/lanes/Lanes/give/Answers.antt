@@ -1,8 +1,8 @@
 use Rattle.std.proofs.Common.{◌<◌, ◌+◌, List, ◌∙◌, ap, arith, get_or, length, subst, sym}
-use Rattle.link_run.specs.LaneRuns.{AreAt, HaveRun, Pair}
+use Rattle.link_run.specs.kept.LaneRuns.{AreAt, HaveRunLanes, Pair}
 use Rattle.link_model.specs.Kinds.{kind_of}
-use Rattle.link_model.specs.LaneRuns.{given_by}
-use Rattle.link_run.specs.LaneEnds.{buffer_in, next_in, params_in}
+use Rattle.link_model.specs.kept.LaneRuns.{given_by}
+use Rattle.link_run.specs.kept.LaneEnds.{buffer_in, next_in, params_in}
 use Rattle.link_run.proofs.LaneLemmas.{HasGiven, IsGiven, all-written, are-at, changed-more, changed-none, have-run, written-more, written-none}
 use Rattle.link_run.proofs.lanes.Lanes.give.Goals as goal
 
@@ -54,7 +54,7 @@ returns-clause-given c s runs run =
     let count = c.requires.count in
     all-written IsGiven c.self.inside.pairs.items c.loop-lane.given c.loop-lane.lane s runs
     (given_by (kind_of s.link.params) s runs) c.loop-lane.invariant.written (omega arith) (omega arith)
-    (subst (λ (l : List Pair). HaveRun l s runs) (sym c.self.view_is) run)
+    (subst (λ (l : List Pair). HaveRunLanes l s runs) (sym c.self.view_is) run)
     (λ k x y done h. done.entry s k (runs k) h)
 
 pub returns-clause-goes_on : goal.returns-clause-goes_on
@@ -64,7 +64,7 @@ returns-clause-goes_on c s runs run =
     have-run HasGiven c.self.inside.pairs.items c.loop-lane.self-inside.pairs.items c.loop-lane.lane
     s runs (λ k. record (runs k) { gave = (runs k).gave + 1 })
     c.loop-lane.invariant.changed (omega arith) (λ k x y done. done.goes_on s k (runs k))
-    (subst (λ (l : List Pair). HaveRun l s runs) (sym c.self.view_is) run)
+    (subst (λ (l : List Pair). HaveRunLanes l s runs) (sym c.self.view_is) run)
 
 pub returns-clause-at : goal.returns-clause-at
 returns-clause-at c p next at =

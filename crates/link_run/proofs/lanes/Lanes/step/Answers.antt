@@ -1,10 +1,10 @@
 use Rattle.std.proofs.Common.{◌≡◌, ◌<◌, List, ◌∙◌, ap, arith, get_or, length, refl, subst, sym}
 use Rattle.std.specs.Prelude.{slice_index}
 use Rattle.link_model.specs.Kinds.{kind_of}
-use Rattle.link_model.specs.LaneRuns.{stepped}
-use Rattle.link_run.specs.LaneEnds.{IsSmall, MayFollow, buffer_in}
-use Rattle.link_run.specs.LaneRuns.{AreAt, HaveRun, Pair}
-use Rattle.link_run.specs.Sendings.{next_after}
+use Rattle.link_model.specs.kept.LaneRuns.{stepped}
+use Rattle.link_run.specs.kept.LaneEnds.{IsSmall, MayFollow, buffer_in}
+use Rattle.link_run.specs.kept.LaneRuns.{AreAt, HaveRunLanes, Pair}
+use Rattle.link_run.specs.kept.Sendings.{next_after}
 use Rattle.link_run.proofs.LaneLemmas.{HasStepped, are-at, changed-more, changed-none, have-run-below, written-back}
 use Rattle.link_run.proofs.lanes.Lanes.step.Goals as goal
 
@@ -75,7 +75,7 @@ returns-clause-goes_on c = λ s runs run arms.
     (slice_index c.args.handed.now k) c.args.told.now)
     c.loop-lane.invariant (omega arith)
     (λ k x y below done ran. done.goes_on s k (runs k) ran (λ stays. arms stays k below))
-    (subst (λ (l : List Pair). HaveRun l s runs) (sym old) run))
+    (subst (λ (l : List Pair). HaveRunLanes l s runs) (sym old) run))
 
 pub returns-clause-at : goal.returns-clause-at
 returns-clause-at c = λ p next at.

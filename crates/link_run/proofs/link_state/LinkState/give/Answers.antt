@@ -6,19 +6,19 @@ use Rattle.link_params.specs.Lanes.{LaneKind}
 use Rattle.bring_up.specs.declared.stage.Stage.TheVariants as stage
 use Rattle.bring_up.specs.Decisions.{is_running}
 use Rattle.scenario.specs.Plans.{Plan}
-use Rattle.link_model.specs.Before.{Columns, octet_columns}
+use Rattle.link_model.specs.kept.Before.{Columns, octet_columns}
 use Rattle.link_model.specs.Gives.{gives_in}
 use Rattle.link_model.specs.Hunts.{session}
 use Rattle.link_model.specs.Kinds.{kind_of, moment_of, run_of}
-use Rattle.link_model.specs.LaneRuns.{LaneRun, given_by, lane_run, lane_stepped}
+use Rattle.link_model.specs.kept.LaneRuns.{LaneRun, given_by, lane_run, lane_stepped}
 use Rattle.link_model.proofs.ColumnHistory.{all-give-none, all-give-some, column}
 use Rattle.link_model.proofs.DeliveryHistory.{delivered-early, delivered-still}
 use Rattle.link_model.proofs.KindFacts.{lead}
 use Rattle.link_model.proofs.NextMoment.{lanes_of}
 use Rattle.link_model.proofs.NumberLists.{length-numbers}
-use Rattle.link_run.specs.Gathered.{Gathering, HasGathered}
-use Rattle.link_run.specs.LaneRuns.{AreAt, Pair}
-use Rattle.link_run.specs.LinkStates.{CanGive, LinkView, columns_left}
+use Rattle.link_run.specs.kept.Gathered.{Gathering, HasGathered}
+use Rattle.link_run.specs.kept.LaneRuns.{AreAt, Pair}
+use Rattle.link_run.specs.kept.LinkStates.{CanGive, LinkView, columns_left}
 use Rattle.link_run.proofs.GiveFacts.{begun-few, columns-early, columns-late, columns-still, delivered-frames, delivered-nothing, have-words, lane-gave, lane-still, no-words, still-gathered, with_tick}
 use Rattle.link_run.proofs.LaneStates.{have-same, link-of, plan-there}
 use Rattle.link_run.proofs.Rooms.{IsGood, stepped-entry}

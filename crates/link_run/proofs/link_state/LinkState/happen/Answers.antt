@@ -1,12 +1,12 @@
 use Rattle.std.proofs.Common.{◌∙◌, ◌+◌, ℕ, List, if◌then◌else◌, None, sym, ap, subst}
 use Rattle.link_params.specs.declared.alarms.Device.TheVariants.{Tx, Rx}
 use Rattle.link_model.specs.Edges.{is_reset}
-use Rattle.link_run.specs.Happened.{are_past}
-use Rattle.link_model.specs.LaneRuns.{lane_run}
-use Rattle.link_run.specs.LaneRuns.{AreAt, Pair}
-use Rattle.link_run.specs.LinkStates.{HasRun, LinkView}
+use Rattle.link_run.specs.kept.Happened.{are_past}
+use Rattle.link_model.specs.kept.LaneRuns.{lane_run}
+use Rattle.link_run.specs.kept.LaneRuns.{AreAt, Pair}
+use Rattle.link_run.specs.kept.LinkStates.{HasRun, LinkView}
 use Rattle.link_model.specs.Kinds.{kind_of, run_of}
-use Rattle.link_run.specs.Sendings.{next_of}
+use Rattle.link_run.specs.kept.Sendings.{next_of}
 use Rattle.link_run.proofs.FeedLemmas.{same_params}
 use Rattle.link_run.proofs.LaneStates.{as-before, have-same, plan-there, ready-is}
 use Rattle.link_model.proofs.RunTicks.{length-run}

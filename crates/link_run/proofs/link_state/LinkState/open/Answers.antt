@@ -3,10 +3,10 @@ use Rattle.std.specs.Prelude.{count_by}
 use Rattle.std.proofs.lemmas.Bool.{le-ltb}
 use Rattle.std.proofs.lemmas.List.Sums.{sum_by-cons}
 use Rattle.scenario.specs.declared.plan.Event.{Event}
-use Rattle.link_run.specs.Gathered.{HasGathered}
-use Rattle.link_run.specs.LaneRuns.{AreAt, HaveRun}
+use Rattle.link_run.specs.kept.Gathered.{HasGathered}
+use Rattle.link_run.specs.kept.LaneRuns.{AreAt, HaveRunLanes}
 use Rattle.link_model.specs.Kinds.{kind_of}
-use Rattle.link_model.specs.LaneRuns.{no_run}
+use Rattle.link_model.specs.kept.LaneRuns.{no_run}
 use Rattle.link_model.proofs.ColumnHistory.{columns-now-none}
 use Rattle.link_model.proofs.LaneHistory.{lane-run-none}
 use Rattle.link_run.proofs.LaneStates.{have-same, link-of}
@@ -35,7 +35,7 @@ returns-clause-stands c = λ s is.
       tx = c.in_ok-open.ensures.begins s is same;
       rx = c.in_ok-open-2.ensures.begins s is same;
       lanes = have-same _ s _ _ (λ lane below. sym (lane-run-none s lane))
-          (subst (λ l. HaveRun l s (λ lane. no_run s)) lanes begun);
+          (subst (λ l. HaveRunLanes l s (λ lane. no_run s)) lanes begun);
       at = rw (c.in_ok-open.ensures.idle s.link.params)
           (subst (λ l. AreAt l s.link.params None) lanes
           (subst (λ p. AreAt c.in_ok-lanes.lanes p None) params c.in_ok-lanes.ensures.at));

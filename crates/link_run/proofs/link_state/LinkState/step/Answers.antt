@@ -5,22 +5,22 @@ use Rattle.link_params.specs.declared.orders.TxOrder.{TxOrder}
 use Rattle.link_params.specs.declared.orders.RxOrder.{RxOrder}
 use Rattle.link_params.specs.Lanes.{Handed, LaneKind}
 use Rattle.link_params.specs.Laws.{is_b}
-use Rattle.lane_c.specs.Receivers.{IsArmedOn}
+use Rattle.lane_c.specs.kept.Receivers.{IsArmedOn}
 use Rattle.scenario.specs.Plans.{Plan}
 use Rattle.link_run.specs.declared.tx_lane.TxLane.{TxLane}
 use Rattle.link_run.specs.declared.tx_lane.TxLane.TheVariants as tx
-use Rattle.link_run.specs.Gathered.{Gathering, HasGathered}
-use Rattle.link_run.specs.LaneEnds.{HasSent, IsSmall, MayFollow, next_in, params_in}
-use Rattle.link_run.specs.LaneRuns.{Pair}
-use Rattle.link_run.specs.LinkStates.{CanStep, LinkView, columns_of}
-use Rattle.link_run.specs.Sendings.{Follows, FollowsOn}
+use Rattle.link_run.specs.kept.Gathered.{Gathering, HasGathered}
+use Rattle.link_run.specs.kept.LaneEnds.{HasSent, IsSmall, MayFollow, next_in, params_in}
+use Rattle.link_run.specs.kept.LaneRuns.{Pair}
+use Rattle.link_run.specs.kept.LinkStates.{CanStep, LinkView, columns_of}
+use Rattle.link_run.specs.kept.Sendings.{Follows, FollowsOn}
 use Rattle.link_model.proofs.ArmedHistory.{armed-on, armed-run}
 use Rattle.link_model.proofs.LaneHistory.{has-hunt-run, lane-stepped, session-goes-on}
 use Rattle.link_model.proofs.NextMoment.{handed-next, lanes_of, told-next}
 use Rattle.link_model.proofs.NumberLists.{length-numbers}
-use Rattle.link_model.specs.Before.{current}
+use Rattle.link_model.specs.kept.Before.{current}
 use Rattle.link_model.specs.Kinds.{kind_of, moment_of, run_of}
-use Rattle.link_model.specs.LaneRuns.{lane_ready}
+use Rattle.link_model.specs.kept.LaneRuns.{lane_ready}
 use Rattle.link_model.specs.Moments.{History}
 use Rattle.link_model.specs.Receives.{taken_in, told_of}
 use Rattle.link_model.specs.Sends.{data_place, frames_before, handed_to}

@@ -1,16 +1,16 @@
 use Rattle.std.proofs.Common.{◌≡◌, ◌∙◌, ◌*◌, Some, length, arith, sym, ap, subst}
 use Rattle.std.specs.Prelude.{All}
 use Rattle.link_params.specs.Laws.{is_b}
-use Rattle.link_run.specs.Gathered.{Whole}
+use Rattle.link_run.specs.kept.Gathered.{Whole}
 use Rattle.link_params.specs.declared.alarms.Device.TheVariants.{Tx, Rx}
 use Rattle.bring_up.specs.Decisions.{is_hunting}
 use Rattle.scenario.specs.Plans.{Plan, plan_of}
 use Rattle.link_model.specs.Edges.{is_reset}
 use Rattle.link_model.specs.Kinds.{kind_of, run_of}
-use Rattle.link_model.specs.LaneRuns.{lane_stepped}
-use Rattle.link_run.specs.LinkStates.{HasRun}
-use Rattle.link_run.specs.ReceiverRuns.{IsEnded, IsToldTick}
-use Rattle.link_run.specs.Transmitters.{HasSentRun, IsSentTick}
+use Rattle.link_model.specs.kept.LaneRuns.{lane_stepped}
+use Rattle.link_run.specs.kept.LinkStates.{HasRun}
+use Rattle.link_run.specs.kept.ReceiverRuns.{IsEnded, IsToldTick}
+use Rattle.link_run.specs.kept.Transmitters.{HasSentRun, IsSentTick}
 use Rattle.link_run.specs.contracts.link_state.LinkState.{the_view as view_of}
 use Rattle.link_run.proofs.FeedLemmas.{same_params}
 use Rattle.link_model.proofs.LaneHistory.{has-hunt-run}

@@ -2,16 +2,16 @@ use Rattle.std.proofs.Common.{◌≡◌, ◌∙◌, ℕ, List, [], ◌∷◌, �
 use Rattle.std.proofs.lemmas.List.{with_items_is}
 use Rattle.std.specs.List.{All}
 use Rattle.link_params.specs.declared.lane_report.LaneReport.{LaneReport}
-use Rattle.bring_up.specs.Controls.{HasDecided, NamesOctet}
+use Rattle.bring_up.specs.kept.Controls.{HasDecided, NamesOctet}
 use Rattle.bring_up.specs.Decisions.{decide_at}
 use Rattle.link_params.specs.Lanes.{LaneKind}
 use Rattle.scenario.specs.Plans.{Plan, numbers_from}
 use Rattle.link_model.specs.Moments.{History}
 use Rattle.link_model.specs.Kinds.{kind_of, moment_of, run_of}
-use Rattle.link_model.specs.LaneRuns.{lane_stepped}
-use Rattle.link_run.specs.LaneRuns.{HaveRun, Pair}
-use Rattle.link_model.specs.LaneRuns.{LaneRun}
-use Rattle.link_run.specs.ReceiverRuns.{HasToldTick, decisions_left}
+use Rattle.link_model.specs.kept.LaneRuns.{lane_stepped}
+use Rattle.link_run.specs.kept.LaneRuns.{HaveRunLanes, Pair}
+use Rattle.link_model.specs.kept.LaneRuns.{LaneRun}
+use Rattle.link_run.specs.kept.ReceiverRuns.{HasToldTick, decisions_left}
 use Rattle.link_model.proofs.Depth.{length-reports}
 use Rattle.link_run.proofs.FeedLemmas.{some_plan}
 use Rattle.link_model.proofs.LaneHistory.{has-hunt-run}
@@ -23,8 +23,8 @@ use Rattle.link_run.proofs.receiver.Receiver.decide.Goals as goal
 
 -- the reports that were written are those of the tick
 written : (s : Plan) (t : ℕ) (lanes : List Pair) (new : List LaneReport)
-    → HaveRun lanes s (lane_stepped (kind_of s.link.params) s (run_of s t))
-    → ((q : Plan) (runs : ℕ → LaneRun) → HaveRun lanes q runs
+    → HaveRunLanes lanes s (lane_stepped (kind_of s.link.params) s (run_of s t))
+    → ((q : Plan) (runs : ℕ → LaneRun) → HaveRunLanes lanes q runs
     → new ≡ map (λ lane. (kind_of q.link.params).report q.link.params q.link.timing lane
     (runs lane).taken) (numbers_from 0 q.link.params.l))
     → new ≡ (moment_of s (run_of s t)).reports

@@ -1,13 +1,13 @@
 use Rattle.std.proofs.Common.{◌≡◌, ◌∙◌, ◌+◌, Bool, true, false, [], ◌∷◌, ◌++◌, length, if◌then◌else◌, sym, ap, subst, arith, append-nil}
-use Rattle.bring_up.specs.Controls.{HasDecided}
+use Rattle.bring_up.specs.kept.Controls.{HasDecided}
 use Rattle.scenario.specs.Plans.{Plan}
-use Rattle.link_run.specs.Clocked.{HasRunTo}
+use Rattle.link_run.specs.kept.Clocked.{HasClocked}
 use Rattle.link_model.specs.Kinds.{kind_of, moment_of, run_of}
 use Rattle.link_model.specs.Moments.{History}
 use Rattle.link_model.specs.Run.{decided_in}
 use Rattle.link_model.specs.Hunts.{is_hunt, standing}
-use Rattle.link_model.specs.Before.{decisions_before}
-use Rattle.link_run.specs.ReceiverRuns.{Decides, HasToldTick, decisions_left}
+use Rattle.link_model.specs.kept.Before.{decisions_before}
+use Rattle.link_run.specs.kept.ReceiverRuns.{Decides, HasToldTick, decisions_left}
 use Rattle.link_model.proofs.NextMoment.{decided-next}
 use Rattle.link_model.proofs.RxHistory.{decisions-before-more, ends-in-hunt-more}
 use Rattle.link_model.proofs.TxHistory.{length-more}
@@ -34,7 +34,7 @@ returns-then-not-decides c = λ s is decides.
       decision_is = ap (λ x. x.decision) (sym decided);
       alarms = c.clear.ensures ∙ ap (λ x. x.alarms) (sym decided);
       stands = record {
-        clock = subst (λ n. HasRunTo c.self.inside.clock s n) one told.clock;
+        clock = subst (λ n. HasClocked c.self.inside.clock s n) one told.clock;
         device = told.device;
         control = subst (λ l. HasDecided c.self.inside.control s.link.params s.link.timing l)
             (sym (append-nil (decisions_left s h)) ∙ sym (more s h false (sym no ∙ decides)))
@@ -61,8 +61,8 @@ returns c = λ s is decides.
       decision_is = did.decision_due ∙ ap (λ x. x.decision) (sym decided);
       alarms = did.alarms ∙ ap (λ x. x.alarms) (sym decided);
       stands = record {
-        clock = subst (λ x. HasRunTo x s (length (h ++ moment_of s h ∷ []))) (sym did.same_clock)
-            (subst (λ n. HasRunTo c.args.self.now.clock s n) one before.clock);
+        clock = subst (λ x. HasClocked x s (length (h ++ moment_of s h ∷ []))) (sym did.same_clock)
+            (subst (λ n. HasClocked c.args.self.now.clock s n) one before.clock);
         device = ap (λ x. x.device) did.same_clock ∙ before.device;
         control = subst (λ l. HasDecided c.self-2.inside.control s.link.params s.link.timing l)
             (sym (more s h true (sym here ∙ decides))) did.control;

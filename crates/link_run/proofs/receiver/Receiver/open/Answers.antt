@@ -1,5 +1,5 @@
 use Rattle.std.proofs.Common.{◌≡◌, ◌∙◌, [], true, sym, ap, subst, refl}
-use Rattle.bring_up.specs.Controls.{HasDecided}
+use Rattle.bring_up.specs.kept.Controls.{HasDecided}
 use Rattle.link_model.specs.Hunts.{ends_in_hunt}
 use Rattle.link_run.proofs.PlanFacts.{plan-facts}
 use Rattle.link_run.proofs.receiver.Receiver.open.Goals as goal

@@ -1,6 +1,6 @@
 use Rattle.std.proofs.Common.{◌∙◌, [], ◌∷◌, ◌++◌, sym, subst}
-use Rattle.link_model.specs.Before.{decisions_before}
-use Rattle.link_run.specs.ReceiverRuns.{HasReceivedRun}
+use Rattle.link_model.specs.kept.Before.{decisions_before}
+use Rattle.link_run.specs.kept.ReceiverRuns.{HasReceivedRun}
 use Rattle.link_model.specs.Kinds.{kind_of, moment_of}
 use Rattle.link_model.proofs.RxHistory.{stage-standing}
 use Rattle.link_run.proofs.receiver.Receiver.stage.Goals as goal

@@ -1,15 +1,15 @@
 use Rattle.std.proofs.Common.{◌≡◌, ◌∙◌, ◌+◌, ◌||◌, Bool, not, ℕ, [], length, if◌then◌else◌, sym, ap, ap₂, subst, refl}
 use Rattle.link_params.specs.declared.alarms.Device.TheVariants.{Rx}
 use Rattle.link_params.specs.declared.orders.RxOrder.{RxOrder}
-use Rattle.bring_up.specs.Controls.{HasDecided}
+use Rattle.bring_up.specs.kept.Controls.{HasDecided}
 use Rattle.bring_up.specs.Decisions.{is_hunting}
-use Rattle.link_run.specs.Clocked.{HasRunTo}
+use Rattle.link_run.specs.kept.Clocked.{HasClocked}
 use Rattle.link_model.specs.Edges.{is_reset, off, phase}
 use Rattle.link_model.specs.Kinds.{kind_of}
 use Rattle.link_model.specs.Run.{is_at}
 use Rattle.link_model.specs.Receives.{offset_at, told_of}
-use Rattle.link_model.specs.Before.{decisions_before}
-use Rattle.link_run.specs.ReceiverRuns.{HasReceivedRun}
+use Rattle.link_model.specs.kept.Before.{decisions_before}
+use Rattle.link_run.specs.kept.ReceiverRuns.{HasReceivedRun}
 use Rattle.link_model.proofs.NextMoment.{decides-next}
 use Rattle.link_run.proofs.PlanFacts.{plan-facts}
 use Rattle.link_model.proofs.RxHistory.{standing-next}
@@ -27,7 +27,7 @@ returns c = λ s h is same stands_view at reset.
     let stands = subst (λ x. HasReceivedRun x s h) (sym c.self.view_is) stands_view in
     let facts = plan-facts c.args.s.now s is in
     let jitters = facts.jitters ∙ sym c.deref.ensures.value in
-    let clocked = subst (λ n. HasRunTo c.self.inside.clock s n) (sym at) stands.clock in
+    let clocked = subst (λ n. HasClocked c.self.inside.clock s n) (sym at) stands.clock in
     let reset_of = reset ∙ ap (λ d. is_reset s d c.args.t) (sym stands.device) in
     let told = c.tick-clock.ensures.answer s clocked jitters reset_of in
     let phase_is : c.tick-clock.result.phase ≡ phase s Rx (length h) = ap (λ x. x.phase) told
@@ -51,7 +51,7 @@ returns c = λ s h is same stands_view at reset.
           ∙ sym (decides-next (kind_of s.link.params) s h);
       after = record {
         clock =
-            subst (λ n. HasRunTo c.tick-clock.new.self s (n + 1)) at (c.tick-clock.ensures.goes_on s
+            subst (λ n. HasClocked c.tick-clock.new.self s (n + 1)) at (c.tick-clock.ensures.goes_on s
             clocked jitters reset_of);
         device = c.tick-clock.ensures.same ∙ stands.device;
         control = decided;

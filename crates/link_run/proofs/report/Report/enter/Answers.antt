@@ -4,7 +4,7 @@ use Rattle.scenario.specs.declared.report_row.Row.TheVariants as row
 use Rattle.scenario.specs.Plans.{source_frame}
 use Rattle.scenario.specs.ReportLines.{line_of}
 use Rattle.link_model.specs.Report.{Printed, prints_all}
-use Rattle.link_run.specs.Printing.{HasPrinted, Printing}
+use Rattle.link_run.specs.kept.Printing.{HasPrinted, Printing}
 use Rattle.link_run.proofs.PrintedRows.{link_of_plan, print_of_plan, printed-more, still-ok}
 use Rattle.link_run.proofs.report.Report.enter.Goals as goal
 

@@ -1,5 +1,5 @@
 use Rattle.std.proofs.Common.{ap, arith}
-use Rattle.link_run.specs.Printing.{Printing}
+use Rattle.link_run.specs.kept.Printing.{Printing}
 use Rattle.link_run.proofs.PrintedRows.{link_of_plan, printed-more, still-ok}
 use Rattle.link_run.proofs.report.Report.row.Goals as goal
 

@@ -1,9 +1,9 @@
 use Rattle.std.proofs.Common.{◌≡◌, ◌∙◌, ◌+◌, arith, [], ◌∷◌, ◌++◌, length, sym, ap, subst}
-use Rattle.link_run.specs.Clocked.{HasRunTo}
-use Rattle.link_run.specs.Seen.{HasSynced}
-use Rattle.link_run.specs.Sendings.{HasObserved}
-use Rattle.link_run.specs.Transmitters.{HasSentTick}
-use Rattle.link_model.specs.Before.{levels_after}
+use Rattle.link_run.specs.kept.Clocked.{HasClocked}
+use Rattle.link_run.specs.kept.Seen.{HasSynced}
+use Rattle.link_run.specs.kept.Sendings.{HasObserved}
+use Rattle.link_run.specs.kept.Transmitters.{HasSentTick}
+use Rattle.link_model.specs.kept.Before.{levels_after}
 use Rattle.link_model.proofs.NextMoment.{next}
 use Rattle.link_model.specs.Kinds.{kind_of}
 use Rattle.link_model.proofs.TxHistory.{length-more, lows-more, observed-before-more}
@@ -16,7 +16,7 @@ returns-clause-ended c = λ s h stands_view low.
     let pushed = c.push.ensures s.link.timing.sync_delay (levels_after h) stands.sync in
     let one : length h + 1 ≡ length (h ++ m ∷ []) = omega (arith, length-more h m) in
     record {
-      clock = subst (λ n. HasRunTo c.self.inside.clock s n) one stands.clock;
+      clock = subst (λ n. HasClocked c.self.inside.clock s n) one stands.clock;
       device = stands.device;
       sync = subst (λ l. HasSynced c.push.new.self s.link.timing.sync_delay l)
           (ap (λ b. levels_after h ++ b ∷ []) low ∙ sym (lows-more h m)) pushed;

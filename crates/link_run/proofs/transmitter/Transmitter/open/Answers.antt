@@ -2,8 +2,8 @@ use Rattle.std.proofs.Common.{◌≡◌, ◌∙◌, None, arith, [], sym, ap, su
 use Rattle.link_params.specs.declared.fields.Params.{Params}
 use Rattle.link_params.proofs.LawFacts.{legal_sizes, timely}
 use Rattle.link_params.specs.Laws.{broken_law}
-use Rattle.link_run.specs.Seen.{HasSynced}
-use Rattle.link_run.specs.Sendings.{HasObserved}
+use Rattle.link_run.specs.kept.Seen.{HasSynced}
+use Rattle.link_run.specs.kept.Sendings.{HasObserved}
 use Rattle.link_run.proofs.PlanFacts.{plan-facts}
 use Rattle.link_model.proofs.TxHistory.{observed-before-none}
 use Rattle.link_run.proofs.transmitter.Transmitter.open.Goals as goal

@@ -7,9 +7,9 @@ use Rattle.link_model.specs.Sends.{beginnings, data_place, frames_before, handed
 use Rattle.link_params.specs.Numbers.{octets_per_tick}
 use Rattle.link_model.proofs.NextMoment.{entered-next, handed-next, next, order-next}
 use Rattle.link_model.proofs.TxHistory.{frames-before-more}
-use Rattle.link_run.specs.Clocked.{HasRunTo}
-use Rattle.link_run.specs.Seen.{HasFed}
-use Rattle.link_run.specs.Transmitters.{HasSentRun, Observes}
+use Rattle.link_run.specs.kept.Clocked.{HasClocked}
+use Rattle.link_run.specs.kept.Seen.{HasFed}
+use Rattle.link_run.specs.kept.Transmitters.{HasSentRun, Observes}
 use Rattle.scenario.specs.Plans.{numbers_from}
 use Rattle.link_run.proofs.FeedLemmas.{left_in}
 use Rattle.link_run.proofs.PlanFacts.{plan-facts}
@@ -23,7 +23,7 @@ returns-clause-sent c = λ s h is same stands_view at reset.
     let stands = subst (λ x. HasSentRun x s h) view stands_view in
     let facts = plan-facts c.args.s.now s is in
     let jitters = facts.jitters ∙ sym c.deref.ensures.value in
-    let clocked = subst (λ n. HasRunTo c.self.inside.clock s n) (sym at) stands.clock in
+    let clocked = subst (λ n. HasClocked c.self.inside.clock s n) (sym at) stands.clock in
     let reset_of = reset ∙ ap (λ d. is_reset s d c.args.t) (sym stands.device) in
     let told = c.tick-clock.ensures.answer s clocked jitters reset_of in
     let off_is : c.tick-clock.result.off ≡ off s Tx (length h) = ap (λ x. x.off) told
@@ -53,7 +53,7 @@ returns-clause-sent c = λ s h is same stands_view at reset.
           c.args.reset) (sym view) seen;
       place = place;
       after = record {
-        clock = subst (λ n. HasRunTo c.tick-clock.new.self s (n + 1)) at goes_on;
+        clock = subst (λ n. HasClocked c.tick-clock.new.self s (n + 1)) at goes_on;
         device = c.tick-clock.ensures.same ∙ stands.device;
         sync = stands.sync;
         sending = seen.after;

@@ -1,5 +1,5 @@
 use Rattle.std.proofs.Common.{subst}
-use Rattle.link_run.specs.LaneEnds.{HasSent}
+use Rattle.link_run.specs.kept.LaneEnds.{HasSent}
 use Rattle.link_run.specs.declared.tx_lane.TxLane.{TxLane}
 use Rattle.link_run.proofs.tx_lane.TxLane.clear.Goals as goal
 

@@ -2,7 +2,7 @@ use Rattle.std.proofs.Common.{◌≡◌, ◌+◌, ◌==◌, ◌∙◌, suc, ap, 
 use Rattle.std.specs.Prelude.{◌&&◌}
 use Rattle.std.specs.Int.{bit_at}
 use Rattle.jesd_base.specs.Bits.{add}
-use Rattle.multiblock.specs.Hunts.{is_good, all_good}
+use Rattle.multiblock.specs.kept.Hunts.{is_good, all_good}
 use Rattle.multiblock.proofs.Masks.{all-phases, and-is, good-is}
 use Rattle.multiblock.proofs.place_hunt.PlaceHunt.good_phases.Goals as goal
 

@@ -1,6 +1,6 @@
 use Rattle.std.proofs.Common.{◌≡◌, ◌<◌, ◌==◌, ℕ}
 use Rattle.std.specs.Int.{bit_at}
-use Rattle.multiblock.specs.Hunts.{is_good, all_good}
+use Rattle.multiblock.specs.kept.Hunts.{is_good, all_good}
 use Rattle.multiblock.proofs.place_hunt.PlaceHunt.good_phases.Given as goal
 
 abbrev pub invariant-loop-n : goal.invariant-loop-n

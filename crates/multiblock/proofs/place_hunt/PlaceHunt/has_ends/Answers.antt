@@ -4,7 +4,7 @@ use Rattle.std.specs.Int.{bit_at}
 use Rattle.std.proofs.lemmas.Nat.Bits.{shr_and_one}
 use Rattle.jesd_base.specs.Bits.{add}
 use Rattle.multiblock.specs.Places.{pattern_size}
-use Rattle.multiblock.specs.Hunts.{Kept, sync_bit, ends_of}
+use Rattle.multiblock.specs.kept.Hunts.{Kept, sync_bit, ends_of}
 use Rattle.multiblock.proofs.Patterns.{ends-step, differ, agree}
 use Rattle.multiblock.proofs.place_hunt.PlaceHunt.has_ends.Goals as goal
 

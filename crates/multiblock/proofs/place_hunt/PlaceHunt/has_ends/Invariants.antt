@@ -1,6 +1,6 @@
 use Rattle.std.proofs.Common.{◌≡◌, ◌-◌}
 use Rattle.multiblock.specs.Places.{pattern_size}
-use Rattle.multiblock.specs.Hunts.{sync_bit, ends_of}
+use Rattle.multiblock.specs.kept.Hunts.{sync_bit, ends_of}
 use Rattle.multiblock.proofs.place_hunt.PlaceHunt.has_ends.Given as goal
 
 abbrev pub invariant-loop-j : goal.invariant-loop-j

@@ -2,7 +2,7 @@ use Rattle.std.proofs.Common.{◌≡◌, ◌+◌, ◌≤◌, ◌==◌, ◌∙◌
 use Rattle.std.specs.Int.{bit_at}
 use Rattle.std.proofs.lemmas.Nat.Bits.{bit_at-zero}
 use Rattle.multiblock.specs.Places.{pattern_size}
-use Rattle.multiblock.specs.Hunts.{is_good, sync_bit, all_words}
+use Rattle.multiblock.specs.kept.Hunts.{is_good, sync_bit, all_words}
 use Rattle.multiblock.proofs.Masks.{all-phases}
 use Rattle.multiblock.proofs.Patterns.{words-step, no-words}
 use Rattle.multiblock.proofs.place_hunt.PlaceHunt.phases.Goals as goal

@@ -1,6 +1,6 @@
 use Rattle.std.proofs.Common.{◌≡◌, ◌<◌, ◌==◌, ℕ}
 use Rattle.std.specs.Int.{bit_at}
-use Rattle.multiblock.specs.Hunts.{is_good, sync_bit, all_words}
+use Rattle.multiblock.specs.kept.Hunts.{is_good, sync_bit, all_words}
 use Rattle.multiblock.proofs.place_hunt.PlaceHunt.phases.Given as goal
 
 abbrev pub invariant-loop-n : goal.invariant-loop-n

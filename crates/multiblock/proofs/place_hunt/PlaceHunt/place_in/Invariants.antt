@@ -1,5 +1,5 @@
 use Rattle.std.proofs.Common.{◌<◌, ◌+◌, ℕ}
-use Rattle.multiblock.specs.Hunts.{IsNothing}
+use Rattle.multiblock.specs.kept.Hunts.{IsNothing}
 use Rattle.multiblock.proofs.place_hunt.PlaceHunt.place_in.Given as goal
 
 abbrev pub invariant-loop-i : goal.invariant-loop-i

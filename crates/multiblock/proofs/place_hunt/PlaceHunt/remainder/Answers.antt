@@ -1,7 +1,7 @@
 use Rattle.std.proofs.Common.{◌≡◌, ◌+◌, ◌<◌, ◌∙◌, Bool, ℕ, sym, ap, arith}
 use Rattle.jesd_base.specs.Search.{IsLeast}
 use Rattle.multiblock.specs.Places.{pattern_size}
-use Rattle.multiblock.specs.Hunts.{Kept, sync_bit, ends_of}
+use Rattle.multiblock.specs.kept.Hunts.{Kept, sync_bit, ends_of}
 use Rattle.multiblock.proofs.place_hunt.PlaceHunt.remainder.Goals as goal
 
 pub returns-then-has_ends-clause-is : goal.returns-then-has_ends-clause-is

@@ -1,6 +1,6 @@
 use Rattle.std.proofs.Common.{◌≡◌, ◌<◌, ℕ, false}
 use Rattle.multiblock.specs.Places.{pattern_size}
-use Rattle.multiblock.specs.Hunts.{sync_bit, ends_of}
+use Rattle.multiblock.specs.kept.Hunts.{sync_bit, ends_of}
 use Rattle.multiblock.proofs.place_hunt.PlaceHunt.remainder.Given as goal
 
 abbrev pub invariant-loop-m : goal.invariant-loop-m

@@ -1,5 +1,5 @@
 use Rattle.std.proofs.Common.{◌∙◌, ◌%◌, ◌^◌, ◌+◌, ◌*◌, ◌/◌, ap}
-use Rattle.multiblock.specs.Hunts.{Kept}
+use Rattle.multiblock.specs.kept.Hunts.{Kept}
 use Rattle.multiblock.proofs.Hunting.{Took, resumed}
 use Rattle.multiblock.proofs.place_hunt.PlaceHunt.resume.Goals as goal
 

@@ -1,7 +1,7 @@
 use Rattle.std.proofs.Common.{◌≡◌, ℕ, ◌*◌, ◌+◌, ◌-◌, ◌^◌, ◌<◌, ◌≤◌, ◌%◌, ◌/◌, ◌∙◌, List, arith, ap}
 use Rattle.std.specs.Int.{bit_at}
-use Rattle.sample_map.specs.Grids.{sizes}
-use Rattle.sample_map.specs.Groups.{Grouping, group_bit}
+use Rattle.sample_map.specs.kept.Grids.{sizes}
+use Rattle.sample_map.specs.kept.Groups.{Grouping, group_bit}
 use Rattle.sample_map.proofs.BitLemmas.{behind-lt, bit_at-cut, bit_at-part, bits_behind, cut-lt, one_up-same, up-same}
 use Rattle.sample_map.proofs.grid.Grid.octet_at.Goals as goal
 

@@ -1,7 +1,7 @@
 use Rattle.std.proofs.Common.{◌≡◌, ℕ, ◌+◌, ◌-◌, ◌*◌, ◌<◌, ◌≤◌, ◌^◌}
 use Rattle.std.specs.Int.{bit_at}
-use Rattle.sample_map.specs.Groups.{group_bit}
-use Rattle.sample_map.specs.Grids.{sizes}
+use Rattle.sample_map.specs.kept.Groups.{group_bit}
+use Rattle.sample_map.specs.kept.Grids.{sizes}
 use Rattle.sample_map.proofs.grid.Grid.octet_at.Given as goal
 
 abbrev pub invariant-gathering : goal.invariant-gathering

@@ -1,8 +1,8 @@
 use Rattle.std.proofs.Common.{◌≡◌, ℕ, ◌<◌, ◌≤◌, ◌*◌, ◌^◌, ◌-◌, ◌+◌, ◌∙◌, List, length, sym, arith, get_or}
 use Rattle.std.proofs.Math.Pow.{pow_pos}
 use Rattle.std.proofs.lemmas.Nat.Bits.{bit_at-zero}
-use Rattle.sample_map.specs.Groups.{Grouping}
-use Rattle.sample_map.specs.Grids.{sizes}
+use Rattle.sample_map.specs.kept.Groups.{Grouping}
+use Rattle.sample_map.specs.kept.Grids.{sizes}
 use Rattle.sample_map.proofs.BitLemmas.{behind-lt, cut-same}
 use Rattle.sample_map.proofs.GroupLemmas.{group_bit-at, group_bit-behind, bits_of_word}
 use Rattle.sample_map.proofs.grid.Grid.word_at.Goals as goal

@@ -1,6 +1,6 @@
 use Rattle.std.proofs.Common.{◌≡◌, ℕ, ◌+◌, ◌/◌, ◌∙◌, arith, ap, sym}
 use Rattle.std.proofs.lemmas.Nat.{div-mul-add}
-use Rattle.sample_map.specs.Grids.{sizes}
+use Rattle.sample_map.specs.kept.Grids.{sizes}
 use Rattle.sample_map.proofs.GroupLemmas.{below_more, has_octet, octet_more}
 use Rattle.sample_map.proofs.grid.Grid.write_octets.Goals as goal
 

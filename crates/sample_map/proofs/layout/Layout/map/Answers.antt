@@ -1,7 +1,7 @@
 use Rattle.std.proofs.Common.{◌≡◌, ◌∙◌, ap, arith, None}
 use Rattle.link_params.specs.Laws.{broken_law}
-use Rattle.sample_map.specs.Groups.{grouping}
-use Rattle.sample_map.specs.Grids.{sizes}
+use Rattle.sample_map.specs.kept.Groups.{grouping}
+use Rattle.sample_map.specs.kept.Grids.{sizes}
 use Rattle.sample_map.proofs.FrameLemmas.{is_frame_of, words_within}
 use Rattle.sample_map.proofs.layout.Layout.map.Goals as goal
 

@@ -6,7 +6,7 @@ use Rattle.std.proofs.lemmas.List.Sorted.{All-permutation, length_permutation}
 use Rattle.scenario.specs.Answer.{seen_of, shape_of}
 use Rattle.scenario.specs.Limits.{event_fits, what_fits}
 use Rattle.scenario.specs.Plans.{plan_at}
-use Rattle.scenario.specs.Sound.{AreEvents, AreSound, AreTicks}
+use Rattle.scenario.specs.kept.Sound.{AreEvents, AreSound, AreTicks}
 use Rattle.scenario.specs.declared.plan.Event.{Event}
 use Rattle.scenario.proofs.InputLemmas.{IsGiven, given}
 use Rattle.scenario.proofs.reading.Reading.planned.Goals as goal

@@ -1,0 +1,3 @@
+-- What values keep of their history, and how the code goes; no reader has to believe it.
+pub mod Classes
+pub mod Controls

@@ -1,0 +1,2 @@
+-- What values keep of their history, and how the code goes; no reader has to believe it.
+pub mod Queues

@@ -1,0 +1,3 @@
+-- What functions with empty bodies carry; each statement is proved.
+pub mod BitLaws
+pub mod DivisionLaws

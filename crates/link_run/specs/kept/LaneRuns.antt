@@ -1,0 +1,70 @@
+-- What a lane of a run went through, and what its two ends and its line keep of it.
+-- Code: two ends and a line.
+use Rattle.std.specs.Prelude.{◌≡◌, ◌<◌, ℕ, ◌-◌, ◌*◌, ◌==◌, if◌then◌else◌, List, length, get_or, Option}
+use Rattle.link_params.specs.declared.fields.Params.{Params}
+use Rattle.link_params.specs.Numbers.{depth, period, width}
+use Rattle.line_model.specs.LineBits.{Settings}
+use Rattle.line_model.specs.kept.Lines.{Kept, HasCarried}
+use Rattle.scenario.specs.Plans.{Plan}
+use Rattle.link_model.specs.Carried.{inverted_bits}
+use Rattle.link_model.specs.kept.LaneRuns.{LaneRun}
+use Rattle.link_run.specs.declared.rx_lane.RxLane.{RxLane}
+use Rattle.link_run.specs.declared.tx_lane.TxLane.{TxLane}
+use Rattle.link_run.specs.kept.LaneEnds.{HasSent, HasTaken, buffer_in, next_in, params_in, rx_width, tx_width}
+
+-- a lane as contracts see it
+pub record Pair : Type 0 where
+  pub tx : TxLane
+  pub line : Kept
+  pub rx : RxLane
+
+-- its ends and its line have ticks of the same width
+pub record AreAlike (tx : TxLane) (line : Kept) (rx : RxLane) : Type 0 where
+  pub sends : line.set.width ≡ tx_width tx
+  pub takes : rx_width rx ≡ tx_width tx
+
+-- the longest delay of a lane, in bits
+abbrev pub reach : Params → ℕ
+reach p = (period p - 1) * width p
+
+-- how the line of a lane is set
+abbrev pub settings : Plan → ℕ → LaneRun → Settings
+settings s lane x = record {
+  width = width s.link.params;
+  reach = reach s.link.params;
+  delay = x.delay;
+  dead = x.dead;
+  flips = inverted_bits s lane (width s.link.params * s.ticks);
+}
+
+-- a lane of this plan went through this
+pub record HasRunLane (now : Pair) (s : Plan) (lane : ℕ) (x : LaneRun) : Type 0 where
+  pub tx : HasSent now.tx s.link.params lane x.handed
+  pub line : HasCarried now.line (settings s lane x) x.sent
+  pub rx : HasTaken now.rx s.link.params s.link.timing lane x.taken x.gave
+  pub depth : (buffer_in now.rx).depth ≡ depth s.link.params s.link.timing
+
+-- lane by lane
+abbrev pub HaveRunLanes : List Pair → Plan → (ℕ → LaneRun) → Type 0
+HaveRunLanes now s runs = (length now ≡ s.link.params.l)
+    × ((lane : ℕ) (d : Pair) → lane < s.link.params.l
+    → HasRunLane (get_or now lane d) s lane (runs lane))
+
+-- each lane's transmitter end has these parameters, and its next data this place
+abbrev pub AreAt : List Pair → Params → Option ℕ → Type 0
+AreAt now p next = (lane : ℕ) (d : Pair) → lane < length now
+    → (params_in (get_or now lane d).tx ≡ p) × (next_in (get_or now lane d).tx ≡ next)
+
+-- each lane's elastic buffer has room for an entry
+abbrev pub HaveRoom : List Pair → Type 0
+HaveRoom now = (lane : ℕ) (d : Pair) → lane < length now
+    → length (buffer_in (get_or now lane d).rx).cells < (buffer_in (get_or now lane d).rx).depth
+
+-- and holds one
+abbrev pub HaveEntries : List Pair → Type 0
+HaveEntries now = (lane : ℕ) (d : Pair) → lane < length now
+    → 0 < length (buffer_in (get_or now lane d).rx).cells
+
+-- the lane with this number changes, the others stay
+abbrev pub with_lane : (ℕ → LaneRun) → ℕ → LaneRun → ℕ → LaneRun
+with_lane runs lane x l = if l == lane then x else runs l

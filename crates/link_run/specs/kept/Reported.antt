@@ -1,0 +1,55 @@
+-- What is reported of a tick.
+-- Code: the text of the rows so far, and their counts.
+use Rattle.std.specs.Prelude.{◌≡◌, ◌≤◌, ℕ, ◌+◌, ◌*◌, List, [], ◌∷◌, ◌++◌, length, fold, max}
+use Rattle.std.specs.List.{flat_map}
+use Rattle.link_params.specs.declared.alarms.Alarm.{Alarm}
+use Rattle.link_params.specs.declared.alarms.Device.TheVariants.{Tx, Rx}
+use Rattle.link_params.specs.Numbers.{octets_per_tick}
+use Rattle.scenario.specs.declared.report_row.Row.TheVariants as row
+use Rattle.scenario.specs.declared.report_row.Totals.{Totals}
+use Rattle.scenario.specs.Plans.{Plan}
+use Rattle.link_run.specs.declared.ticked.Ticked.{Ticked}
+use Rattle.link_model.specs.Edges.{is_reset, off}
+use Rattle.link_model.specs.Kinds.{moment_of}
+use Rattle.link_model.specs.Moments.{History}
+use Rattle.link_model.specs.Report.{Printed, bare, rows_from, totals}
+use Rattle.link_model.specs.Sends.{data_place}
+use Rattle.link_run.specs.kept.Gathered.{Whole, delivered_of}
+use Rattle.link_run.specs.kept.Printing.{HasPrinted, Printing}
+
+-- the rows of these ticks, without the counts
+abbrev pub rows_so_far : Plan → History → List Printed
+rows_so_far s h = bare row.Link ∷ bare (row.Hunt 0) ∷ rows_from s 0 0 h
+
+-- the rows of these ticks stand in the report, and its counts are theirs
+pub record HasReported (now : Printing) (s : Plan) (h : History) : Type 0 where
+  pub printed : HasPrinted now s (rows_so_far s h)
+  pub counts : now.totals ≡ totals s h
+
+-- what was seen of the tick after this history; alarms: those of the decision, frames: those that
+-- left, begun: how many octets of each lane came behind the last of them
+pub record IsSeen (x : Ticked) (alarms : List Alarm) (frames : List Whole) (begun : ℕ) (s : Plan)
+    (h : History) : Type 0 where
+  pub rx_reset : x.rx_reset ≡ is_reset s Rx (length h)
+  pub tx_off : x.tx_off ≡ off s Tx (length h)
+  pub rx_off : x.rx_off ≡ off s Rx (length h)
+  pub place : x.place ≡ data_place (moment_of s h).order
+  pub decision : x.decision ≡ (moment_of s h).decided.decision
+  pub alarms_are : alarms ≡ (moment_of s h).decided.alarms
+  pub delivered_is : (moment_of s h).delivered ≡ delivered_of s.link.params
+      (octets_per_tick s.link.params * (length h + 1)) frames begun
+  pub fullest : x.fullest ≡ fold max 0 (flat_map (λ m. m.held) (h ++ moment_of s h ∷ []))
+
+-- at most n frames were counted
+pub record AreFewFrames (now : Totals) (n : ℕ) : Type 0 where
+  pub delivered : now.delivered ≤ n
+  pub ok : now.ok ≤ n
+  pub fixed : now.fixed ≤ n
+  pub bad : now.bad ≤ n
+
+-- the counts of t ticks are small: at most eight frames begin and leave in a tick
+pub record AreFew (now : Totals) (t : ℕ) : Type 0 where
+  pub ticks : now.ticks ≤ t
+  pub entered : now.entered ≤ 8 * t
+  pub frames : AreFewFrames now (8 * t)
+  pub alarms : now.alarms ≤ 36 * t

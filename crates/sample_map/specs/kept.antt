@@ -1,0 +1,4 @@
+-- What values keep of their history, and how the code goes; no reader has to believe it.
+pub mod Cursors
+pub mod Grids
+pub mod Groups
