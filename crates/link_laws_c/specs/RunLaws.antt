@@ -17,7 +17,8 @@ use Rattle.link_laws_c.specs.CheckedC.{checked_c}
 abbrev pub checks_of : Params → Checks
 checks_of p = if is_b p.mode then checked_b else checked_c
 
--- the laws of the run of a plan; only 8b/10b lanes have a lock that nothing else may look like
+-- the laws of the run of a plan; that nothing else that is sent looks like a lock is a law of 8b/10b
+-- lanes, and a premise of the other laws with 64b/66b lanes
 pub record RunLaws (s : Plan) : Type 0 where
   pub latency : Latency (kind_of s.link.params) lock_pattern s
   pub bound : Bound (kind_of s.link.params) lock_pattern s

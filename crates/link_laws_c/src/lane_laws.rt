@@ -12,16 +12,16 @@ ghost use Rattle.link_laws_c.specs.LaneLawsC.{
 /// The laws of a lane hold of the run of each legal plan with 64b/66b lanes, with CRC-12 and with
 /// FEC (JESD204C.1, 64b/66b link layer: block, multiblock and extended multiblock synchronization).
 ///
-/// On a clean line a lane is locked in time, and only where the transmitter has a phase. On a clean
-/// line, or with one burst in each multiblock under FEC, it starts exactly with the first block of
-/// an extended multiblock that leaves the wait for its check after the arming; an armed lane is
-/// never lost, and each of its entries carries the octets that were handed in, ok on a clean line
-/// and never bad.
+/// Where no pattern of a lock stands where no multiblock begins: on a clean line a lane is locked in
+/// time, and only where the transmitter has a phase. On a clean line, or with one burst in each
+/// multiblock under FEC, it starts exactly with the first block of an extended multiblock that
+/// leaves the wait for its check after the arming; an armed lane is never lost, and each of its
+/// entries carries the octets that were handed in, ok on a clean line and never bad.
 ///
-/// So where SYSREF edges and lanes meet their windows on such a line, and no pattern of a lock
-/// stands where no multiblock begins, each frame leaves unchanged exactly the link's latency after
-/// it entered; on a clean line delivery starts within the link's bound; and where a lane
-/// is outside its window, an alarm is raised for such a lane, and nothing is released.
+/// So where SYSREF edges and lanes meet their windows on such a line, each frame leaves unchanged
+/// exactly the link's latency after it entered; on a clean line delivery starts within the link's
+/// bound; and where a lane is outside its window, an alarm is raised for such a lane, and nothing
+/// is released.
 ///
 /// In every run, whatever its lines do, each elastic buffer has room for the entry of each tick and
 /// holds one in each tick in which it is to give one, and the fullest buffer of the report is

@@ -29,6 +29,8 @@ mod sync_line;
 mod tests_clock;
 #[cfg(test)]
 mod tests_parts;
+#[cfg(test)]
+mod tests_runs;
 mod ticked;
 mod transmitter;
 mod tx_lane;
