@@ -1,5 +1,5 @@
 -- One octet more on the sender's side.
-use Rattle.std.proofs.Common.{◌≡◌, ◌≢◌, ℕ, ◌+◌, ◌-◌, ◌%◌, ◌==◌, ◌<◌, ◌≤◌, nat_le, Bool, true, false, List, [], ◌∷◌, ◌++◌, length, get_or, Some, refl, sym, ◌∙◌, ap, subst, inl, inr, arith, length-append, eq-eqb, ne_eqb, le-leb, leb-true}
+use Rattle.std.proofs.Common.{◌≡◌, ◌≢◌, ℕ, ◌+◌, ◌-◌, ◌%◌, ◌==◌, ◌<◌, ◌≤◌, nat_le, ◌&&◌, if◌then◌else◌, Bool, true, false, List, [], ◌∷◌, ◌++◌, length, get_or, Some, refl, sym, ◌∙◌, ap, subst, inl, inr, arith, length-append, eq-eqb, ne_eqb, le-leb, leb-true}
 use Rattle.std.proofs.Math.ListN.{get_or-append}
 use Rattle.std.proofs.Math.Seq.{get_or-append_seam}
 use Rattle.std.proofs.lemmas.Bool.{cases_Bool, cases_lt, lt-leb, eqb-true}
@@ -9,7 +9,7 @@ use Rattle.link_params.specs.declared.fields.Mode.TheVariants.{B}
 use Rattle.link_params.specs.Numbers.{period}
 use Rattle.code_8b10b.specs.declared.character.Char.{Char}
 use Rattle.code_8b10b.specs.declared.character.Char.TheVariants.{Data}
-use Rattle.char_replace.specs.Replacement.{IsReplaced, char_due, ends_multiframe, is_data}
+use Rattle.char_replace.specs.Replacement.{IsReplaced, alignment_a, alignment_f, char_due, ends_frame_only, ends_multiframe, is_data}
 use Rattle.char_replace.specs.kept.Ends.{Sender, HasReplaced, char_by_kept, frame_end, IsSerial}
 use Rattle.char_replace.proofs.FramePlaces.{has_period, ends-none, begun-inside, frame_end-here, frame_end-before, frame_end-inside}
 
@@ -69,17 +69,17 @@ due-end s p octets chars o c x h top f end =
       | inr plain ↦ rw plain (elim (cases_lt x p.f) [
         | inl first ↦
             let none = lt-leb p.f x first in
-            let begun : s.begun ≡ false = h.begun ∙ rw (← top) none in
+            let begun : s.begun ≡ false = h.begun plain ∙ rw (← top) none in
             rw (none, begun) (elim (cases_Bool (ends_multiframe p x)) [ inl whole ↦ rw whole refl | inr part ↦ rw part refl ])
         | inr later ↦
             let some = le-leb p.f x later in
-            let begun : s.begun ≡ true = h.begun ∙ rw (← top) some in
+            let begun : s.begun ≡ true = h.begun plain ∙ rw (← top) some in
             let place : frame_end p (length octets) ≡ x - p.f = rw (← top) (frame_end-before p x end) in
             let room : p.f ≤ length octets = omega arith in
-            let before : get_or (octets ++ o ∷ []) (x - p.f) 0 ≡ s.last = get_or-append octets (o ∷ []) 0 (x - p.f) (omega arith) ∙ sym (rw place at (h.last room)) in
+            let before : get_or (octets ++ o ∷ []) (x - p.f) 0 ≡ s.last = get_or-append octets (o ∷ []) 0 (x - p.f) (omega arith) ∙ sym (rw place at (h.last plain room)) in
             let same = h.replaced.whole in
             let sent = get_or-append chars (c ∷ []) (Data 0) (x - p.f) (omega arith) in
-            let as_data : is_data (get_or (chars ++ c ∷ []) (x - p.f) (Data 0)) ≡ s.as_data = ap is_data sent ∙ sym (rw place at (h.as_data room)) in
+            let as_data : is_data (get_or (chars ++ c ∷ []) (x - p.f) (Data 0)) ≡ s.as_data = ap is_data sent ∙ sym (rw place at (h.as_data plain room)) in
             rw (some, begun, before, as_data) refl
       ])
     ])
@@ -97,15 +97,15 @@ replaced-inside s p octets chars o h b f k apart =
     record {
       replaced = is_replaced-more p octets chars o (Data o) h.replaced due;
       params = h.params;
-      begun = h.begun ∙ sym (ap (nat_le p.f) long ∙ begun-inside p.f x f apart);
-      last = λ room.
+      begun = λ plain. h.begun plain ∙ sym (ap (nat_le p.f) long ∙ begun-inside p.f x f apart);
+      last = λ plain room.
           let old : p.f ≤ x = leb-true p.f x (sym (begun-inside p.f x f apart) ∙ le-leb p.f (x + 1) (omega arith)) in
           let inside : frame_end p x < x = omega arith in
-          h.last old ∙ sym (get_or-append octets (o ∷ []) 0 (frame_end p x) inside) ∙ ap (get_or_at (octets ++ o ∷ []) 0) (sym place);
-      as_data = λ room.
+          h.last plain old ∙ sym (get_or-append octets (o ∷ []) 0 (frame_end p x) inside) ∙ ap (get_or_at (octets ++ o ∷ []) 0) (sym place);
+      as_data = λ plain room.
           let old : p.f ≤ x = leb-true p.f x (sym (begun-inside p.f x f apart) ∙ le-leb p.f (x + 1) (omega arith)) in
           let inside : frame_end p x < length chars = omega arith in
-          h.as_data old ∙ ap is_data (sym (get_or-append chars (Data o ∷ []) (Data 0) (frame_end p x) inside) ∙ ap (get_or_at (chars ++ Data o ∷ []) (Data 0)) (sym place));
+          h.as_data plain old ∙ ap is_data (sym (get_or-append chars (Data o ∷ []) (Data 0) (frame_end p x) inside) ∙ ap (get_or_at (chars ++ Data o ∷ []) (Data 0)) (sym place));
     }
 
 -- the next octet at the end of a frame
@@ -121,10 +121,41 @@ replaced-end s later p octets chars o c h f end due params begun last as_data =
     record {
       replaced = is_replaced-more p octets chars o c h.replaced (due ∙ sym (due-end s p octets chars o c x h refl f end));
       params = params ∙ h.params;
-      begun = begun ∙ sym (ap (nat_le p.f) long ∙ le-leb p.f (x + 1) full);
-      last = λ room. last ∙ sym (ap (get_or_at (octets ++ o ∷ []) 0) place ∙ get_or-append_seam octets o [] 0);
-      as_data = λ room. as_data ∙ ap is_data (sym (ap (get_or_at (chars ++ c ∷ []) (Data 0)) (place ∙ sym same) ∙ get_or-append_seam chars c [] (Data 0)));
+      begun = λ plain. begun ∙ sym (ap (nat_le p.f) long ∙ le-leb p.f (x + 1) full);
+      last = λ plain room. last ∙ sym (ap (get_or_at (octets ++ o ∷ []) 0) place ∙ get_or-append_seam octets o [] 0);
+      as_data = λ plain room. as_data ∙ ap is_data (sym (ap (get_or_at (chars ++ c ∷ []) (Data 0)) (place ∙ sym same) ∙ get_or-append_seam chars c [] (Data 0)));
     }
+
+-- with scrambling an octet that is neither 7C nor FC is sent as data
+due-scrambled : (p : Params) (octets : List ℕ) (chars : List Char) (o : ℕ) → p.scr ≡ true → o ≢ 0x7C → o ≢ 0xFC
+    → char_due p (octets ++ o ∷ []) chars (length octets) ≡ Data o
+due-scrambled p octets chars o scr no_a no_f =
+    let x : ℕ = length octets in
+    let last = get_or-append_seam octets o [] 0 in
+    let a = ne_eqb o 0x7C no_a in
+    let f = ne_eqb o 0xFC no_f in
+    rw (scr, last, a, f) (both (ends_multiframe p x) (ends_frame_only p x))
+  where
+    both : (whole end : Bool) → (if whole && false then alignment_a else (if end && false then alignment_f else Data o)) ≡ Data o
+    both true true = refl
+    both true false = refl
+    both false true = refl
+    both false false = refl
+
+pub replaced-push_scrambled : (s : Sender) (q : Params) (o : ℕ) → s.params ≡ q → q.scr ≡ true → o ≢ 0x7C → o ≢ 0xFC
+    → (p : Params) (octets : List ℕ) (chars : List Char) → HasReplaced s p octets chars → HasReplaced s p (octets ++ o ∷ []) (chars ++ Data o ∷ [])
+replaced-push_scrambled s q o kept scr no_a no_f p octets chars h =
+    let is : p.scr ≡ true = ap (λ (n : Params). n.scr) (sym h.params ∙ kept) ∙ scr in
+    record {
+      replaced = is_replaced-more p octets chars o (Data o) h.replaced (sym (due-scrambled p octets (chars ++ Data o ∷ []) o is no_a no_f));
+      params = h.params;
+      begun = λ plain. absurd (apart is plain);
+      last = λ plain room. absurd (apart is plain);
+      as_data = λ plain room. absurd (apart is plain);
+    }
+  where
+    apart : p.scr ≡ true → p.scr ≡ false → ⊥
+    apart is plain = cc
 
 -- one octet more, by what the place says
 pub replaced-push_inside : (s : Sender) (q : Params) (o place : ℕ) (end : Bool) → s.params ≡ q → IsSerial q

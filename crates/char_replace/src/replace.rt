@@ -11,8 +11,8 @@ use code_8b10b::{Char, K28_3, K28_7};
 use link_params::{Params, Shape};
 use std::marker::Model;
 
-/// The characters of a lane's data octets. Contracts see it as the parameters, whether a whole frame was sent, the octet
-/// that ended the last one, and whether that was sent as data.
+/// The characters of a lane's data octets. Contracts see it as the parameters and, without scrambling, whether a whole frame
+/// was sent, the octet that ended the last one, and whether that was sent as data.
 #[derive(Clone, Copy, Debug)]
 pub struct Replace {
     params: Params,
@@ -53,6 +53,9 @@ impl Replace {
         ensures { (p : ParamsValue) (octets : List ℕ) (chars : List CharValue) → HasReplaced self.old p octets chars → place ≡ length octets % period p
             → HasReplaced self.new p (octets ++ octet ∷ []) (chars ++ result ∷ []) }
     {
+        if self.params.scr && octet != K28_3 && octet != K28_7 {
+            return Char::Data(octet);
+        }
         if !is_frame_end(&self.params, place) {
             return Char::Data(octet);
         }

@@ -4,8 +4,12 @@ use super::*;
 #[test]
 fn spells_and_reads(rt: HostRuntime) {
     let rows = [
-        (Rd::Minus, Char::Control(0xBC), 0x0FA, Rd::Plus),
-        (Rd::Plus, Char::Control(0xBC), 0x305, Rd::Minus),
+        (Rd::Minus, Char::Control(K28_0), 0x0F4, Rd::Minus),
+        (Rd::Minus, Char::Control(K28_3), 0x0F3, Rd::Plus),
+        (Rd::Minus, Char::Control(K28_4), 0x0F2, Rd::Minus),
+        (Rd::Minus, Char::Control(K28_5), 0x0FA, Rd::Plus),
+        (Rd::Plus, Char::Control(K28_5), 0x305, Rd::Minus),
+        (Rd::Minus, Char::Control(K28_7), 0x0F8, Rd::Minus),
         (Rd::Minus, Char::Data(0xF1), 0x237, Rd::Plus),
         (Rd::Plus, Char::Data(0xF1), 0x231, Rd::Minus),
     ];
@@ -14,7 +18,7 @@ fn spells_and_reads(rt: HostRuntime) {
         assert_eq!(rt; decode(rd, word), (Reading::Char(c), next), "{word}");
     }
     assert_eq!(rt; encode(Rd::Minus, Char::Control(0)), None);
-    let other = (Reading::Disparity(Char::Control(0xBC)), Rd::Plus);
+    let other = (Reading::Disparity(Char::Control(K28_5)), Rd::Plus);
     assert_eq!(rt; decode(Rd::Plus, 0x0FA), other);
     assert_eq!(rt; decode(Rd::Plus, 0), (Reading::Invalid, Rd::Minus));
 }

@@ -24,3 +24,5 @@ pub mod OneChain
 pub mod OneLock
 pub mod Lasting
 pub mod Ties
+pub mod SentPlaces
+pub mod RunSteps

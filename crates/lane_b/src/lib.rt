@@ -4,7 +4,9 @@
 //! let mut sender = TxLaneB::new(&link, 0);
 //! let word = sender.tick(TxOrder::Comma, 0); // ten bits, bit 9 sent first
 //! let mut receiver = RxLaneB::open(alloc, &link, 0)?;
+//! sender.run(place, &octets, &mut words); // data that goes on, as so many ticks
 //! receiver.take(&order, word);
+//! let count = receiver.run_to_change(&order, period, &words);
 //! let report = receiver.report();
 //! ```
 #![tactic(auto)]

@@ -1,11 +1,12 @@
 //! The receiver's end of a lane.
-ghost use Rattle.std.specs.Prelude.{◌≡◌, ◌<◌, ◌≤◌, ◌+◌, ◌-◌, ◌++◌, ◌∷◌, [], ℕ, List, Option, Some, None, true, false, length, get_or, IfOk};
+ghost use Rattle.std.specs.Prelude.{◌≡◌, ◌≢◌, ◌<◌, ◌≤◌, ◌+◌, ◌-◌, ◌++◌, ◌∷◌, [], ℕ, List, Option, Some, None, true, false, length, get_or, IfOk};
 ghost use Rattle.jesd_base.specs.Bits.{bits as bits_of};
 ghost use Rattle.link_params.specs.declared.fields.Params.{Params as ParamsValue};
 ghost use Rattle.link_params.specs.declared.fields.Timing.{Timing as TimingValue};
 ghost use Rattle.link_params.specs.declared.fields.Mode.TheVariants.{B};
 ghost use Rattle.link_params.specs.Lanes.{Taken, Entry, Placed, is_inside};
 ghost use Rattle.link_params.specs.Numbers.{depth};
+ghost use Rattle.link_params.specs.Runs.{word_ticks};
 ghost use Rattle.lane_b.specs.kept.Gives.{given, ComesInOrder, Holds};
 ghost use Rattle.lane_b.specs.Received.{report_b, entries_b};
 ghost use Rattle.lane_b.specs.Locking.{is_comma};
@@ -19,7 +20,7 @@ use crate::started::Started;
 use code_8b10b::{Char, Hunt, K28_5, Reading};
 use elastic_buffer::ElasticBuffer;
 use jesd_base::NoMemory;
-use link_params::{IlasState, LaneCell, LaneReport, Link, Mark, RxOrder};
+use link_params::{IlasState, LaneCell, LaneReport, Link, Mark, RxOrder, place_after};
 use std::alloc::Global;
 use std::marker::Model;
 
@@ -108,6 +109,61 @@ impl RxLaneB {
         self.tick(order, bits);
     }
 
+    /// Takes the bits of a run of ticks in which no hunt begins, as so many calls of `take`.
+    /// `order` is that of the first tick; each later one has the next offset, counted from 0 in a
+    /// round of `period`. The buffer has room for an entry of each tick.
+    pub fn run(&mut self, order: &RxOrder, period: u32, words: &[u16])
+        requires hunt { order.now.hunt ≡ false }
+        requires offset { order.now.offset < period }
+        requires bits { (i : ℕ) → i < length words.now → get_or words.now i 0 < 1024 }
+        requires room { length self.old.buffer.cells + length words.now
+            ≤ self.old.buffer.depth }
+        ensures goes_on { (p : ParamsValue) (t : TimingValue) (lane : ℕ) (taken : List Taken)
+            (gave : ℕ) → HasTaken self.old p t lane taken gave → HasTaken self.new p t lane
+            (taken ++ word_ticks 10 order.now period words.now (length words.now)) gave }
+        ensures depth { self.new.buffer.depth ≡ self.old.buffer.depth }
+    {
+        let mut now = *order;
+        for i in 0..words.len() {
+            self.tick(&now, words[i]);
+            now.offset = place_after(now.offset, period);
+        }
+    }
+
+    /// As `run`, but only up to the first tick after which the lane's report is another than
+    /// before. Gives how many ticks were taken.
+    pub fn run_to_change(&mut self, order: &RxOrder, period: u32, words: &[u16]) -> usize
+        requires hunt { order.now.hunt ≡ false }
+        requires offset { order.now.offset < period }
+        requires bits { (i : ℕ) → i < length words.now → get_or words.now i 0 < 1024 }
+        requires room { length self.old.buffer.cells + length words.now
+            ≤ self.old.buffer.depth }
+        ensures within { result ≤ length words.now }
+        ensures alike { (p : ParamsValue) (t : TimingValue) (lane : ℕ) (taken : List Taken)
+            (gave : ℕ) → HasTaken self.old p t lane taken gave → (n : ℕ) → n < result
+            → report_b p t lane (taken ++ word_ticks 10 order.now period words.now n)
+            ≡ report_b p t lane taken }
+        ensures change { (p : ParamsValue) (t : TimingValue) (lane : ℕ) (taken : List Taken)
+            (gave : ℕ) → HasTaken self.old p t lane taken gave → result < length words.now
+            → report_b p t lane (taken ++ word_ticks 10 order.now period words.now result)
+            ≢ report_b p t lane taken }
+        ensures goes_on { (p : ParamsValue) (t : TimingValue) (lane : ℕ) (taken : List Taken)
+            (gave : ℕ) → HasTaken self.old p t lane taken gave → HasTaken self.new p t lane
+            (taken ++ word_ticks 10 order.now period words.now result) gave }
+        ensures depth { self.new.buffer.depth ≡ self.old.buffer.depth }
+    {
+        let before = self.report();
+        let mut next = *order;
+        for i in 0..words.len() {
+            self.tick(&next, words[i]);
+            if !before.is_same(&self.report()) {
+                return i + 1;
+            }
+            next.offset = place_after(next.offset, period);
+        }
+        words.len()
+    }
+
     // A hunt begins: nothing was taken yet.
     fn begin(&mut self)
         ensures begins { (p : ParamsValue) (t : TimingValue) (lane : ℕ) (taken : List Taken) (gave : ℕ) → HasTaken self.old p t lane taken gave
@@ -127,6 +183,7 @@ impl RxLaneB {
         ensures goes_on { (p : ParamsValue) (t : TimingValue) (lane : ℕ) (taken : List Taken) (gave : ℕ) → HasTaken self.old p t lane taken gave
             → HasTaken self.new p t lane (taken ++ (record { order = order.now; word = bits_of 10 bits }) ∷ []) gave }
         ensures depth { self.new.buffer.depth ≡ self.old.buffer.depth }
+        ensures most { length self.new.buffer.cells ≤ length self.old.buffer.cells + 1 }
     {
         match &mut self.state {
             State::Hunting(hunt) => {
@@ -154,6 +211,7 @@ impl RxLaneB {
         ensures same { Keeps self.old self.new }
         ensures entry { (entries : List Entry) (e : Entry) (gave : ℕ) → Holds entries self.old.placed self.old.buffer.cells gave → entry ≡ given e
             → ComesInOrder entries e → Holds (entries ++ e ∷ []) self.new.placed self.new.buffer.cells gave }
+        ensures more { length self.new.buffer.cells ≡ length self.old.buffer.cells + 1 }
     {
         match entry {
             Some(cell) => self.buffer.push(cell),

@@ -1,9 +1,10 @@
 //! The transmitter's end of a lane.
-ghost use Rattle.std.specs.Prelude.{◌≡◌, ◌<◌, ◌%◌, ◌++◌, ◌∷◌, [], ℕ, suc, if◌then◌else◌, List};
+ghost use Rattle.std.specs.Prelude.{◌≡◌, ◌<◌, ◌≤◌, ◌+◌, ◌%◌, ◌++◌, ◌∷◌, [], ℕ, suc, if◌then◌else◌, List, Some, length, get_or, take};
 ghost use Rattle.link_params.specs.declared.fields.Params.{Params as ParamsValue};
 ghost use Rattle.link_params.specs.declared.fields.Mode.TheVariants.{B};
 ghost use Rattle.link_params.specs.Lanes.{Handed};
 ghost use Rattle.link_params.specs.Numbers.{period};
+ghost use Rattle.link_params.specs.Runs.{data_ticks};
 ghost use Rattle.lane_b.specs.Sent.{char_of, coded_octets, data_char, data_octets, sent_words};
 ghost use Rattle.lane_b.specs.kept.Senders.{Follows, FollowsData, GoesOn, HasSent, HasSpellings, IsSameLink, MayGoOn, ScramblesSo, place_after_order};
 
@@ -13,6 +14,7 @@ use ilas::ilas_char;
 use lane_scramble::Scr15;
 use link_params::{Link, TxOrder, place_after};
 use std::marker::Model;
+use std::mem;
 
 /// A transmitter lane: ten bits a tick.
 #[derive(Drop)]
@@ -85,6 +87,39 @@ impl TxLaneB {
             }
             None => unreachable!(),
         }
+    }
+
+    /// The words of a run of ticks of data, as of so many calls of `tick`: the octet `octets[i]`
+    /// gives `words[i]`, so there are as many words as octets. Data goes on, and its next octet is
+    /// at `place`.
+    pub fn run(&mut self, place: u32, octets: &[u8], words: &mut [u16])
+        requires place { self.old.next ≡ Some place }
+        requires length { length words.old ≡ length octets.now }
+        ensures words { (p : ParamsValue) (lane : ℕ) (handed : List Handed)
+            → HasSent self.old p lane handed → (n : ℕ) → n ≤ length octets.now
+            → sent_words p lane (handed ++ data_ticks p place octets.now n)
+            ≡ sent_words p lane handed ++ take n words.new }
+        ensures below { (i : ℕ) → i < length words.new → get_or words.new i 0 < 1024 }
+        ensures sent { (p : ParamsValue) (lane : ℕ) (handed : List Handed)
+            → HasSent self.old p lane handed → HasSent self.new p lane
+            (handed ++ data_ticks p place octets.now (length octets.now)) }
+        ensures next { self.new.next
+            ≡ Some ((place + length octets.now) % period self.old.params) }
+        ensures same { self.new.params ≡ self.old.params }
+    {
+        let period = self.link.shape().period();
+        let empty = TxLaneB::new(&self.link, self.lane);
+        let mut own = mem::replace(self, empty);
+        let mut at = place;
+        for i in 0..octets.len() {
+            let order = TxOrder::Data {
+                place: at,
+                first: false,
+            };
+            words[i] = own.tick(order, octets[i]);
+            at = place_after(at, period);
+        }
+        *self = own;
     }
 
     // The character of a tick.

@@ -1,5 +1,5 @@
 //! Receiver lanes: locks at any bit, dropped locks, starts, and bits that are no characters.
-ghost use Rattle.std.specs.Prelude.{◌≡◌, ◌<◌, IfSome};
+ghost use Rattle.std.specs.Prelude.{◌≡◌, ◌<◌, ℕ, IfSome, IsTrue, get_or, length};
 ghost use Rattle.link_params.specs.declared.fields.Mode.TheVariants.{B};
 
 use crate::RxLaneB;
@@ -243,5 +243,54 @@ fn gives_places_and_then_data(rt: HostRuntime) -> Result<(), Fail> {
             "{word}"
         );
     }
+    Ok(())
+}
+
+// Whether each word has ten bits.
+fn are_tens(words: &[u16]) -> bool
+    ensures { IsTrue result → (i : ℕ) → i < length words.now → get_or words.now i 0 < 1024 }
+{
+    words.iter().all(|word| *word < 1024)
+}
+
+impl Bench {
+    // Takes a run of these words, all of them or up to a change of the report, where there is room.
+    // Gives how many it took.
+    fn run(&mut self, order: &RxOrder, words: &[u16], is_whole: bool) -> Option<usize> {
+        let fits = self.lane.held() as usize + words.len() <= self.depth as usize;
+        if order.hunt || order.offset >= 17 || !fits || !are_tens(words) {
+            return None;
+        }
+        if is_whole {
+            self.lane.run(order, 17, words);
+            return Some(words.len());
+        }
+        Some(self.lane.run_to_change(order, 17, words))
+    }
+}
+
+// Up to the lock, to the start with the offset of its own tick, and to the first fault of the
+// alignment sequence.
+#[test]
+fn a_run_ends_with_a_change(rt: HostRuntime) -> Result<(), Fail> {
+    let mut bench = Bench::open(rt.alloc()).ok_or("memory")?;
+    bench.take(&HUNT, K);
+    let going = started(0, false, IlasState::Going);
+    let wrong = IlasState::Fault {
+        place: 1,
+        cause: IlasCause::Wrong,
+    };
+    let rows: [(RxOrder, &[u16], bool, usize, LaneReport); 5] = [
+        (WAIT, &[L, K], true, 2, NOT_LOCKED),
+        (WAIT, &[L, K, L], false, 1, LOCKED),
+        (WAIT, &[K], false, 1, LOCKED),
+        (armed(16), &[L, R, D], false, 2, going),
+        (armed(1), &[R, D], true, 2, started(0, false, wrong)),
+    ];
+    for (order, words, is_whole, count, report) in rows {
+        assert_eq!(rt; bench.run(&order, words, is_whole), Some(count), "{count}");
+        assert_eq!(rt; bench.lane.report(), report, "{count}");
+    }
+    assert_eq!(rt; bench.lane.held(), 0);
     Ok(())
 }

@@ -5,6 +5,7 @@ ghost use Rattle.link_params.specs.declared.fields.Mode.TheVariants.{B};
 use crate::TxLaneB;
 use code_8b10b::{Char, Rd, encode};
 use link_params::{Link, Mode, Params, Timing, TxOrder};
+use std::test::Fail;
 
 // D21.2, /F/ and /A/ at negative disparity, and /F/ at positive disparity, which /A/ leaves.
 const D: u16 = 0x2A5;
@@ -131,4 +132,30 @@ fn sends_data(rt: HostRuntime) {
 fn sends_scrambled_data(rt: HostRuntime) {
     assert_eq!(rt; data_word(true, 0, 1), Some(0x1D4));
     assert_eq!(rt; data_word(true, 0, 2), Some(0x274));
+}
+
+// The words of a run of this octet, after a first one.
+fn run_words(scr: bool, octet: u8) -> Option<[u16; 18]> {
+    let link = link(scr)?;
+    let place = 1 % link.shape().period();
+    let mut sender = TxLaneB::new(&link, 0);
+    let first = TxOrder::Data {
+        place: 0,
+        first: true,
+    };
+    sender.tick(first, octet);
+    let mut words = [0; 18];
+    sender.run(place, &[octet; 18], &mut words);
+    Some(words)
+}
+
+#[test]
+fn a_run_sends_what_its_ticks_send(rt: HostRuntime) -> Result<(), Fail> {
+    for (scr, octet) in [(false, 0x55), (true, 0), (true, 0xFC)] {
+        let words = run_words(scr, octet).ok_or("link")?;
+        for (count, word) in (2..20).zip(words) {
+            assert_eq!(rt; data_word(scr, octet, count), Some(word), "{count}");
+        }
+    }
+    Ok(())
 }

@@ -26,3 +26,4 @@ pub mod Firsts
 pub mod KnownGrows
 pub mod CellsLeft
 pub mod Entering
+pub mod RunSteps

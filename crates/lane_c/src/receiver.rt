@@ -6,6 +6,7 @@ ghost use Rattle.link_params.specs.declared.fields.Params.{Params as ParamsValue
 ghost use Rattle.link_params.specs.declared.fields.Timing.{Timing as TimingValue};
 ghost use Rattle.link_params.specs.Lanes.{Held as HeldEntry, Placed, Taken};
 ghost use Rattle.link_params.specs.Numbers.{depth};
+ghost use Rattle.link_params.specs.Runs.{word_ticks};
 ghost use Rattle.lane_c.specs.Received.{entries_c, report_c, report_of};
 ghost use Rattle.lane_c.specs.declared.receiver.Start.{Start as StartValue};
 ghost use Rattle.lane_c.specs.declared.receiver.Step.TheVariants.{Keep, Stay};
@@ -132,6 +133,66 @@ impl RxLaneC {
         self.tick(order, bits);
     }
 
+    /// Takes the bits of a run of ticks in which no hunt begins, as so many calls of `take`.
+    /// `order` is that of the first tick, and is armed where the order before it was; each later
+    /// one has the next offset, counted from 0 in a round of `period`. The buffer has room for an
+    /// entry of each tick.
+    pub fn run(&mut self, order: &RxOrder, period: u32, blocks: &[u128])
+        requires hunt { order.now.hunt ≡ false }
+        requires offset { order.now.offset < period }
+        requires bits { (i : ℕ) → i < length blocks.now → get_or blocks.now i 0 < 2 ^ 66 }
+        requires room { length self.old.buffer.cells + length blocks.now
+            ≤ self.old.buffer.depth }
+        ensures goes_on { (p : ParamsValue) (t : TimingValue) (lane : ℕ) (taken : List Taken)
+            (gave : ℕ) → HasTaken self.old p t lane taken gave → IsArmedOn taken order.now
+            → HasTaken self.new p t lane
+            (taken ++ word_ticks 66 order.now period blocks.now (length blocks.now)) gave }
+        ensures depth { self.new.buffer.depth ≡ self.old.buffer.depth }
+    {
+        let mut now = *order;
+        for i in 0..blocks.len() {
+            self.tick(&now, blocks[i]);
+            now.offset = place_after(now.offset, period);
+        }
+    }
+
+    /// As `run`, but only up to the first tick after which the lane's report is another than
+    /// before. Gives how many ticks were taken.
+    pub fn run_to_change(&mut self, order: &RxOrder, period: u32, blocks: &[u128]) -> usize
+        requires hunt { order.now.hunt ≡ false }
+        requires offset { order.now.offset < period }
+        requires bits { (i : ℕ) → i < length blocks.now → get_or blocks.now i 0 < 2 ^ 66 }
+        requires room { length self.old.buffer.cells + length blocks.now
+            ≤ self.old.buffer.depth }
+        ensures within { result ≤ length blocks.now }
+        ensures alike { (p : ParamsValue) (t : TimingValue) (lane : ℕ) (taken : List Taken)
+            (gave : ℕ) → HasTaken self.old p t lane taken gave → IsArmedOn taken order.now
+            → (n : ℕ) → n < result
+            → report_c p t lane (taken ++ word_ticks 66 order.now period blocks.now n)
+            ≡ report_c p t lane taken }
+        ensures change { (p : ParamsValue) (t : TimingValue) (lane : ℕ) (taken : List Taken)
+            (gave : ℕ) → HasTaken self.old p t lane taken gave → IsArmedOn taken order.now
+            → result < length blocks.now
+            → report_c p t lane (taken ++ word_ticks 66 order.now period blocks.now result)
+            ≢ report_c p t lane taken }
+        ensures goes_on { (p : ParamsValue) (t : TimingValue) (lane : ℕ) (taken : List Taken)
+            (gave : ℕ) → HasTaken self.old p t lane taken gave → IsArmedOn taken order.now
+            → HasTaken self.new p t lane
+            (taken ++ word_ticks 66 order.now period blocks.now result) gave }
+        ensures depth { self.new.buffer.depth ≡ self.old.buffer.depth }
+    {
+        let before = self.report();
+        let mut next = *order;
+        for i in 0..blocks.len() {
+            self.tick(&next, blocks[i]);
+            if !before.is_same(&self.report()) {
+                return i + 1;
+            }
+            next.offset = place_after(next.offset, period);
+        }
+        blocks.len()
+    }
+
     // A hunt begins: nothing was taken yet. It stands apart since a hunt takes 16 KB.
     #[inline(never)]
     fn begin(&mut self)
@@ -158,6 +219,7 @@ impl RxLaneC {
             → IsArmedOn taken order.now → is_inside_now p t lane taken ≡ true
             → length self.new.buffer.cells ≡ suc (length self.old.buffer.cells) }
         ensures depth { self.new.buffer.depth ≡ self.old.buffer.depth }
+        ensures most { length self.new.buffer.cells ≤ length self.old.buffer.cells + 1 }
     {
         match &mut self.state {
             State::Hunting(hunt) => {

@@ -1,10 +1,11 @@
 //! The transmitter's end of a lane.
-ghost use Rattle.std.specs.Prelude.{◌≡◌, ◌≢◌, ◌<◌, ◌≤◌, ◌+◌, ◌-◌, ◌*◌, ◌/◌, ◌%◌, ◌^◌, ◌++◌, ◌∷◌, [], ℕ, suc, List, Some, None, get_or, true, false, length};
+ghost use Rattle.std.specs.Prelude.{◌≡◌, ◌≢◌, ◌<◌, ◌≤◌, ◌+◌, ◌-◌, ◌*◌, ◌/◌, ◌%◌, ◌^◌, ◌++◌, ◌∷◌, [], ℕ, suc, List, Some, None, get_or, true, false, length, map, take};
 ghost use Rattle.jesd_base.specs.Bits.{bits, value};
 ghost use Rattle.link_params.specs.declared.fields.Params.{Params as ParamsValue};
 ghost use Rattle.link_params.specs.declared.fields.Mode.TheVariants.{B, CCrc, CFec};
 ghost use Rattle.link_params.specs.Lanes.{Handed};
 ghost use Rattle.link_params.specs.Numbers.{period as period_of};
+ghost use Rattle.link_params.specs.Runs.{data_ticks};
 ghost use Rattle.fire_fec.specs.Corrects.{payload_bits};
 ghost use Rattle.lane_c.specs.Sent.{blocks_of, check, sent_c};
 ghost use Rattle.lane_c.specs.kept.Senders.{Follows, FollowsBlock, GoesOn, HasPlace, HasSent, IsReady, MayGoOn, place_after_order};
@@ -16,6 +17,7 @@ use lane_scramble::Scr58;
 use link_params::{Link, Mode, TxOrder, place_after};
 use multiblock::sync_word;
 use std::marker::Model;
+use std::mem;
 
 /// A transmitter lane: a block of 66 bits a tick (JESD204C.1, 64b/66b link layer: scrambling, block
 /// format, sync word and multiblock).
@@ -94,6 +96,39 @@ impl TxLaneC {
             TxOrder::Block { place, first } => self.block(place, first, octets),
             _ => 0,
         }
+    }
+
+    /// The bits of a run of ticks, as of so many calls of `tick`: the eight octets in `octets[i]`
+    /// give `blocks[i]`, so there are as many blocks as numbers of octets. Blocks go on, and the
+    /// next one is at `place`.
+    pub fn run(&mut self, place: u32, octets: &[u64], blocks: &mut [u128])
+        requires place { self.old.next ≡ Some place }
+        requires length { length blocks.old ≡ length octets.now }
+        ensures blocks { (p : ParamsValue) (lane : ℕ) (handed : List Handed)
+            → HasSent self.old p handed → (n : ℕ) → n ≤ length octets.now
+            → sent_c p lane (handed ++ data_ticks p place octets.now n)
+            ≡ sent_c p lane handed ++ map (bits 66) (take n blocks.new) }
+        ensures below { (i : ℕ) → i < length blocks.new → get_or blocks.new i 0 < 2 ^ 66 }
+        ensures sent { (p : ParamsValue) (handed : List Handed) → HasSent self.old p handed
+            → HasSent self.new p
+            (handed ++ data_ticks p place octets.now (length octets.now)) }
+        ensures next { self.new.next
+            ≡ Some ((place + length octets.now) % period_of self.old.params) }
+        ensures same { self.new.params ≡ self.old.params }
+    {
+        let period = self.link.shape().period();
+        let empty = TxLaneC::new(&self.link);
+        let mut own = mem::replace(self, empty);
+        let mut at = place;
+        for i in 0..octets.len() {
+            let order = TxOrder::Block {
+                place: at,
+                first: false,
+            };
+            blocks[i] = own.tick(order, octets[i]);
+            at = place_after(at, period);
+        }
+        *self = own;
     }
 
     // The block of a tick.

@@ -1,6 +1,6 @@
 //! Streams of a transmitter lane, delayed and damaged, through a receiver lane, with the values of
 //! an independent reading of the rules; and bits that no transmitter lane sends.
-ghost use Rattle.std.specs.Prelude.{◌≡◌, ◌≢◌, ◌≤◌, ◌<◌, IfSome};
+ghost use Rattle.std.specs.Prelude.{◌≡◌, ◌≢◌, ◌≤◌, ◌<◌, ◌^◌, ℕ, IfSome, IsTrue, get_or, length};
 ghost use Rattle.link_params.specs.declared.fields.Mode.TheVariants.{B};
 
 use crate::{RxLaneC, TxLaneC};
@@ -235,6 +235,28 @@ impl Bench {
             return;
         }
         self.lane.take(order, bits & TICK);
+        self.give();
+    }
+
+    // Takes a run of these bits up to a change of the report, and gives an entry for each tick that
+    // left one. Says how many ticks were taken.
+    fn run(&mut self, order: &RxOrder, period: u32, blocks: &[u128]) -> usize
+        ensures { result ≤ length blocks.now }
+    {
+        let fits = self.lane.held() as usize + blocks.len() <= self.depth as usize;
+        if order.hunt || order.offset >= period || !fits || !are_blocks(blocks) {
+            self.full = true;
+            return blocks.len();
+        }
+        let count = self.lane.run_to_change(order, period, blocks);
+        for _ in 0..count {
+            self.give();
+        }
+        count
+    }
+
+    // Gives an entry, where one waits.
+    fn give(&mut self) {
         if self.lane.held() > 0 {
             let cell = self.lane.give();
             let mark = match cell.mark {
@@ -250,6 +272,13 @@ impl Bench {
                 .wrapping_add(mark);
         }
     }
+}
+
+// Whether these are 66 bits each.
+fn are_blocks(blocks: &[u128]) -> bool
+    ensures { IsTrue result → (i : ℕ) → i < length blocks.now → get_or blocks.now i 0 < 2 ^ 66 }
+{
+    blocks.iter().all(|bits| *bits <= TICK)
 }
 
 // A receiver lane that took a case's bits.
@@ -275,14 +304,70 @@ fn receives_streams(rt: HostRuntime) -> Result<(), Fail> {
     for case in &CASES {
         let bench = outcome_of(rt.alloc(), case, 0)?;
         let name = case.name;
-        let report = bench.lane.report();
-        assert_eq!(rt; report.locked, case.locked, "locked {name}");
-        assert_eq!(rt; report.started, case.started, "started {name}");
-        assert_eq!(rt; report.lost, case.lost, "lost {name}");
-        assert_eq!(rt; report.ilas, IlasState::Idle, "{name}");
-        assert_eq!(rt; bench.entries, case.entries, "entries {name}");
-        assert_eq!(rt; bench.digest, case.digest, "digest {name}");
-        assert!(rt; !bench.full, "{name}");
+        assert!(rt; is_outcome(&bench, case), "{name}");
+    }
+    Ok(())
+}
+
+// The same as in runs: up to sixteen ticks with one order, or up to a change of the report.
+fn outcome_of_runs(alloc: Global, case: &Case) -> Result<Bench, Fail> {
+    let e = case.e.clamp(1, 32);
+    let period = 32 * e;
+    let link = link(case.fec, e, 0).ok_or("link")?;
+    let words = sent(alloc, &link, case.silent, case.ticks)?;
+    let mut blocks = Vec::new(alloc);
+    for tick in 0..case.ticks {
+        let bits = delayed(&words, case.delay, tick);
+        blocks.push(damaged(bits, case.flips, tick))?;
+    }
+    let mut bench = Bench::open(alloc, &link)?;
+    let mut left: &[u128] = &blocks;
+    let mut tick = 0u32;
+    for _ in 0..case.ticks {
+        if left.is_empty() {
+            break;
+        }
+        let order = RxOrder {
+            hunt: tick == 0,
+            armed: tick >= case.armed,
+            offset: tick % period,
+        };
+        let count = if order.hunt {
+            bench.take(&order, left[0]);
+            1
+        } else {
+            let most = if order.armed { 16 } else { case.armed - tick };
+            bench.run(
+                &order,
+                period,
+                &left[..left.len().min(most.min(16) as usize)],
+            )
+        };
+        left = &left[count..];
+        tick = tick.wrapping_add(count as u32);
+    }
+    Ok(bench)
+}
+
+fn is_outcome(bench: &Bench, case: &Case) -> bool {
+    let report = LaneReport {
+        locked: case.locked,
+        started: case.started,
+        lost: case.lost,
+        ilas: IlasState::Idle,
+    };
+    bench.lane.report() == report
+        && bench.entries == case.entries
+        && bench.digest == case.digest
+        && !bench.full
+}
+
+#[test]
+fn receives_streams_in_runs(rt: HostRuntime) -> Result<(), Fail> {
+    for case in &CASES {
+        let bench = outcome_of_runs(rt.alloc(), case)?;
+        let name = case.name;
+        assert!(rt; is_outcome(&bench, case), "{name}");
     }
     Ok(())
 }

@@ -4,6 +4,7 @@
 //! ```text
 //! let mut line = Line::open(alloc, 10, 100, 3, flips)?;
 //! let received = line.step(word); // the bits of three bit times ago
+//! line.run(&mut words); // as so many steps
 //! line.set_delay(13);
 //! ```
 #![tactic(auto)]

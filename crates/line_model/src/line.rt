@@ -1,6 +1,7 @@
 //! The line of a lane.
 ghost use Rattle.std.specs.Prelude.{◌≡◌, ◌≤◌, ◌<◌, ◌+◌, ◌-◌, ◌*◌, ◌/◌, ◌%◌, ◌^◌, ◌==◌, ◌++◌, ◌⊎◌, false, ℕ, Bool, List, [], length, get_or, take, IfOk};
 ghost use Rattle.std.specs.Int.{bit_at};
+ghost use Rattle.std.specs.List.{flat_map};
 ghost use Rattle.std.specs.List.Sorted.{IsStrictlyIncreasing};
 ghost use Rattle.jesd_base.specs.Bits.{bits};
 ghost use Rattle.line_model.specs.LineBits.{Settings, is_flipped, line_word};
@@ -101,6 +102,41 @@ impl Line {
             return 0;
         }
         mask ^ carried
+    }
+
+    /// Puts in the words of a run of ticks, as by so many calls of `step`, on a line of ten bits.
+    /// In the place of each stands the one that is received.
+    pub fn run(&mut self, words: &mut [u16])
+        requires width { self.old.set.width ≡ 10 }
+        requires low { (i : ℕ) → i < length words.old → get_or words.old i 0 < 1024 }
+        ensures answer { (s : Settings) (sent : List Bool) → HasCarried self.old s sent
+            → (i : ℕ) → i < length words.new → bits 10 (get_or words.new i 0) ≡ line_word 10
+            (sent ++ flat_map (bits 10) (take (i + 1) words.old)) s.flips s.delay s.dead }
+        ensures below { (i : ℕ) → i < length words.new → get_or words.new i 0 < 1024 }
+        ensures settings { self.new.set ≡ self.old.set }
+        ensures goes_on { (s : Settings) (sent : List Bool) → HasCarried self.old s sent
+            → HasCarried self.new s (sent ++ flat_map (bits 10) words.old) }
+    {
+        for i in 0..words.len() {
+            words[i] = self.step(u128::from(words[i])) as u16;
+        }
+    }
+
+    /// As `run`, on a line of 66 bits.
+    pub fn run_blocks(&mut self, blocks: &mut [u128])
+        requires width { self.old.set.width ≡ 66 }
+        requires low { (i : ℕ) → i < length blocks.old → get_or blocks.old i 0 < 2 ^ 66 }
+        ensures answer { (s : Settings) (sent : List Bool) → HasCarried self.old s sent
+            → (i : ℕ) → i < length blocks.new → bits 66 (get_or blocks.new i 0) ≡ line_word 66
+            (sent ++ flat_map (bits 66) (take (i + 1) blocks.old)) s.flips s.delay s.dead }
+        ensures below { (i : ℕ) → i < length blocks.new → get_or blocks.new i 0 < 2 ^ 66 }
+        ensures settings { self.new.set ≡ self.old.set }
+        ensures goes_on { (s : Settings) (sent : List Bool) → HasCarried self.old s sent
+            → HasCarried self.new s (sent ++ flat_map (bits 66) blocks.old) }
+    {
+        for i in 0..blocks.len() {
+            blocks[i] = self.step(blocks[i]);
+        }
     }
 
     /// Sets the delay from the next tick on, in bits. All bits that were put in are kept.

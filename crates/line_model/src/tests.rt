@@ -1,5 +1,5 @@
 //! Tests.
-ghost use Rattle.std.specs.Prelude.{◌≡◌, ◌⊎◌, IsTrue};
+ghost use Rattle.std.specs.Prelude.{◌≡◌, ◌⊎◌, ◌<◌, ℕ, IsTrue, get_or, length};
 ghost use Rattle.std.specs.List.Sorted.{IsStrictlyIncreasing};
 
 use crate::Line;
@@ -139,5 +139,49 @@ fn words_of_66_bits(rt: HostRuntime) -> Result<(), Fail> {
         (67, false, 0x3_0f0f_0f0f_0f0f_0f0f, 0x2_ff6e_5d4c_3b2a_1908),
     ];
     assert!(rt; receives(alloc, 66, flips, &ticks)?);
+    Ok(())
+}
+
+// Whether each word has ten bits.
+fn are_tens(words: &[u16]) -> bool
+    ensures { IsTrue result → (i : ℕ) → i < length words.now → get_or words.now i 0 < 1024 }
+{
+    words.iter().all(|word| *word < 1024)
+}
+
+// What a run of these words gives on a line of this delay.
+fn run(alloc: Global, flips: Vec<u64>, delay: u32, words: [u16; 5]) -> Result<[u16; 5], Fail> {
+    if !are_ascending(&flips) || !are_tens(&words) || delay > 100 {
+        return Ok([0; 5]);
+    }
+    let mut words = words;
+    let mut line = Line::open(alloc, 10, 100, delay, flips)
+        .ok()
+        .ok_or("memory")?;
+    line.run(&mut words);
+    Ok(words)
+}
+
+#[test]
+fn a_run_gives_what_its_ticks_give(rt: HostRuntime) -> Result<(), Fail> {
+    let alloc = rt.alloc();
+    let words = [0x2a5, 0x13c, 0x3f0, 0x0f1, 0x2aa];
+    for (delay, received) in [
+        (0, [0x0a4, 0x33c, 0x3f0, 0x0f5, 0x2aa]),
+        (3, [0x055, 0x0a7, 0x27e, 0x01a, 0x0d5]),
+    ] {
+        let flips = vec![in alloc; 0u64, 9, 10, 37]?;
+        assert_eq!(rt; run(alloc, flips, delay, words)?, received, "{delay}");
+    }
+    let flips = vec![in alloc; 0u64; 0]?;
+    let mut line = Line::open(alloc, 66, 100, 67, flips).ok().ok_or("memory")?;
+    let mut blocks = [
+        0x2_0123_4567_89ab_cdef,
+        0x1_fedc_ba98_7654_3210,
+        0x3_0f0f_0f0f_0f0f_0f0f,
+    ];
+    line.run_blocks(&mut blocks);
+    let received = [0, 0x1_0091_a2b3_c4d5_e6f7, 0x2_ff6e_5d4c_3b2a_1908];
+    assert_eq!(rt; blocks, received);
     Ok(())
 }

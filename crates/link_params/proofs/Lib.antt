@@ -1,3 +1,4 @@
 pub mod LawFacts
 pub mod StepFacts
 pub mod ConfigFacts
+pub mod RunLemmas

@@ -5,3 +5,4 @@ pub mod Links
 pub mod Sizes
 pub mod Config
 pub mod Lanes
+pub mod Runs

@@ -6,7 +6,7 @@ ghost use Rattle.link_params.specs.Laws.{broken_law};
 
 use crate::fields::Timing;
 use crate::shape::Shape;
-use crate::timing_check::{latency_of, ticks_of, wait_of};
+use crate::timing_check::{latency_of, ticks_of};
 use std::marker::Model;
 
 /// A link: parameters that obey laws 1 to 12 and a timing that obeys laws 13 to 17. Contracts see it as these two.
@@ -76,7 +76,7 @@ impl Link {
         ensures value { result ≡ wait self.now.params }
         ensures bound { result ≤ 64 }
     {
-        wait_of(&self.shape)
+        self.shape.wait()
     }
 
     /// The latency in ticks.

@@ -1,7 +1,7 @@
 //! Parameters that obey their laws.
 ghost use Rattle.std.specs.Prelude.{◌≡◌, ◌≤◌, ◌<◌, ◌+◌, ◌*◌, None, MatchResult, Some};
 ghost use Rattle.link_params.specs.Laws.{broken_law};
-ghost use Rattle.link_params.specs.Numbers.{width, period, octets_per_tick};
+ghost use Rattle.link_params.specs.Numbers.{width, period, octets_per_tick, wait};
 ghost use Rattle.link_params.specs.TimingLaws.{broken_timing};
 
 use crate::check::{first_broken_law, is_mode_b};
@@ -84,6 +84,14 @@ impl Shape {
         ensures bound { result ≤ 8 }
     {
         if is_mode_b(self.params.mode) { 1 } else { 8 }
+    }
+
+    /// How long a block waits for its check, in ticks: 64, or 0 with 8b/10b lanes.
+    pub fn wait(&self) -> u32
+        ensures value { result ≡ wait self.now }
+        ensures bound { result ≤ 64 }
+    {
+        if is_mode_b(self.params.mode) { 0 } else { 64 }
     }
 
     /// The bits of a tick on a lane: 10 or 66.

@@ -4,7 +4,7 @@ ghost use Rattle.link_params.specs.declared.fields.Mode.TheVariants.{B};
 
 use crate::{
     BadFchk, Config, Law, Link, Mode, Params, Timing, config_octets, first_difference,
-    octet_differs, read_config,
+    octet_differs, place_after, read_config,
 };
 
 /// Two lanes, two converters of sixteen bits, a multiframe of 64 octets.
@@ -458,4 +458,12 @@ fn one_octet_differs(rt: HostRuntime) {
     };
     assert!(rt; octet_differs(&link, 0, 2, 1));
     assert!(rt; !octet_differs(&link, 1, 2, 1));
+}
+
+#[test]
+fn places_go_round(rt: HostRuntime) {
+    assert_eq!(rt; place_after(0, 34), 1);
+    assert_eq!(rt; place_after(32, 34), 33);
+    assert_eq!(rt; place_after(33, 34), 0);
+    assert_eq!(rt; place_after(0, 1), 0);
 }

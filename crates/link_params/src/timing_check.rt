@@ -4,7 +4,6 @@ ghost use Rattle.link_params.specs.Laws.{ceil};
 ghost use Rattle.link_params.specs.Numbers.{period, wait, lat_ticks};
 ghost use Rattle.link_params.specs.TimingLaws.{broken_timing, is_steady, is_sysref, are_steady};
 
-use crate::check::is_mode_b;
 use crate::fields::Timing;
 use crate::shape::Shape;
 
@@ -20,18 +19,6 @@ fn long_ticks_of(sixteenths: u64) -> u64
     ensures { result ≡ ceil sixteenths 16 }
 {
     sixteenths.div_ceil(16)
-}
-
-/// How long a block waits for its check, in ticks.
-pub(crate) fn wait_of(shape: &Shape) -> u32
-    ensures value { result ≡ wait shape.now }
-    ensures bound { result ≤ 64 }
-{
-    if is_mode_b(shape.params().mode) {
-        0
-    } else {
-        64
-    }
 }
 
 fn is_steady_skew(tolerance: u32, skew: u32) -> bool
@@ -93,7 +80,7 @@ pub(crate) fn latency_of(shape: &Shape, timing: &Timing) -> u32
     let rx_edge = timing.sysref_start + ticks_of(timing.rx_skew);
     least_in_step(
         shape.period(),
-        timing.w_hi + wait_of(shape),
+        timing.w_hi + shape.wait(),
         tx_edge,
         rx_edge + timing.rbd,
     )
@@ -119,7 +106,7 @@ pub(crate) fn first_broken_timing(shape: &Shape, timing: &Timing) -> Option<u8>
     if timing.w_lo > timing.w_hi || timing.w_hi >= period {
         return Some(17);
     }
-    if latency_of(shape, timing) >= timing.w_lo + wait_of(shape) + period {
+    if latency_of(shape, timing) >= timing.w_lo + shape.wait() + period {
         return Some(17);
     }
     None

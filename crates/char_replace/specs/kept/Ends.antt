@@ -29,13 +29,13 @@ pub record Sender : Type 0 where
   pub last : ℕ
   pub as_data : Bool
 
--- a sender was handed these octets and gave these characters
+-- a sender was handed these octets and gave these characters; with scrambling it keeps nothing of them
 pub record HasReplaced (now : Sender) (p : Params) (octets : List ℕ) (chars : List Char) : Type 0 where
   pub replaced : IsReplaced p octets chars
   pub params : now.params ≡ p
-  pub begun : now.begun ≡ nat_le p.f (length octets)
-  pub last : p.f ≤ length octets → now.last ≡ slice_index octets (frame_end p (length octets))
-  pub as_data : p.f ≤ length octets → now.as_data ≡ is_data (slice_index_or chars (frame_end p (length octets)) (Data 0))
+  pub begun : p.scr ≡ false → now.begun ≡ nat_le p.f (length octets)
+  pub last : p.scr ≡ false → p.f ≤ length octets → now.last ≡ slice_index octets (frame_end p (length octets))
+  pub as_data : p.scr ≡ false → p.f ≤ length octets → now.as_data ≡ is_data (slice_index_or chars (frame_end p (length octets)) (Data 0))
 
 -- the parameters, whether a whole frame was read, and what the place that ended the last one gave
 pub record Receiver : Type 0 where

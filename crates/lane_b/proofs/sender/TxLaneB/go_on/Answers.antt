@@ -28,7 +28,7 @@ place_is c =
     c.period.ensures.value ∙ ap period c.shape.ensures.same in
     let low : c.args.place < c.period.result = place-low _ _ _ _ _ c.self.invariant.2 next
     (omega (arith, c.period.ensures.low)) size in
-    c.place_after-next.ensures low ∙ ap (λ (n : ℕ). suc c.args.place % n) (c.period.ensures.value ∙ ap period same)
+    c.place_after-next.ensures.next low ∙ ap (λ (n : ℕ). suc c.args.place % n) (c.period.ensures.value ∙ ap period same)
 
 some_octets : (c : goal.After-push) → 1 ≤ c.args.self.now.params.f
 some_octets c =

@@ -67,7 +67,7 @@ returns c = λ p t lane taken h words params timing on.
       next = ap (λ (k : Held). k.place) same
           ∙ next-on (next_place p.e h.at.remainder) h.blocks (period p) old.place
           c.place_after-self.result (omega (arith, period-c p not_b)) h.next
-          (λ lt. c.place_after-self.ensures
+          (λ lt. c.place_after-self.ensures.next
           (subst (λ d. mid.place < d) (sym whole) (subst (λ n. n < period p) (sym stood) lt))
           ∙ ap₂ (λ n d. suc n % d) stood whole);
     } in

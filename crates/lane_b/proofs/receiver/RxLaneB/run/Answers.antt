@@ -1,0 +1,28 @@
+use Rattle.std.proofs.Common.{◌∙◌, refl, arith}
+use Rattle.link_params.proofs.RunLemmas.{later-more, later-start}
+use Rattle.lane_b.proofs.RunSteps.{goes-more, goes-none}
+use Rattle.lane_b.proofs.receiver.RxLaneB.run.Goals as goal
+
+pub loop-i-init : goal.loop-i-init
+loop-i-init c = (
+  later-start c.args.order.now c.args.period c.requires.hunt c.requires.offset,
+  c.requires.offset,
+  omega arith,
+  refl,
+  goes-none c.args.self.now c.args.order.now c.args.period c.args.words.now,
+)
+
+pub loop-i-preserved : goal.loop-i-preserved
+loop-i-preserved c =
+    let so_far = c.loop-i.invariant in
+    let most = c.tick.ensures.most in
+    let held = so_far.2 in
+    let next = later-more c.args.order.now c.args.period c.loop-i.i c.loop-i.now
+    c.place_after.result so_far.0 so_far.1 (c.place_after.ensures.next so_far.1) in (
+      next.0,
+      next.1,
+      omega arith,
+      c.tick.ensures.depth ∙ so_far.3,
+      goes-more c.args.self.now c.loop-i.self c.tick.new.self c.args.order.now c.args.period
+          c.args.words.now c.loop-i.i c.loop-i.now so_far.0 so_far.4 c.tick.ensures.goes_on,
+    )

@@ -1,0 +1,11 @@
+use Rattle.std.proofs.Common.{◌≡◌, ◌<◌, ◌≤◌, ◌+◌, length}
+use Rattle.link_params.specs.Runs.{later}
+use Rattle.lane_c.proofs.RunSteps.{GoesSo}
+use Rattle.lane_c.proofs.receiver.RxLaneC.run.Given as goal
+
+abbrev pub invariant-loop-i : goal.invariant-loop-i
+invariant-loop-i l =
+    (l.now ≡ later l.order l.period l.i) × (l.now.offset < l.period)
+    × (length l.self.buffer.cells ≤ length l.fn.self.buffer.cells + l.i)
+    × (l.self.buffer.depth ≡ l.fn.self.buffer.depth)
+    × GoesSo l.fn.self l.self l.order l.period l.blocks l.i
