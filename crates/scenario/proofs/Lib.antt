@@ -10,4 +10,9 @@ pub mod ScenarioLemmas
 pub mod SoundLemmas
 pub mod LineLemmas
 pub mod SourceLemmas
+pub mod DrawLemmas
+pub mod LegalLemmas
+pub mod FitLemmas
+pub mod MadeLemmas
 pub mod ReadingLaws
+pub mod GeneratedLaws

@@ -23,13 +23,13 @@ use Rattle.scenario.specs.declared.stage.Setup.{Setup}
 use Rattle.scenario.specs.declared.stage.Stage.{Stage}
 use Rattle.scenario.specs.declared.stage.Stage.TheVariants as stage
 use Rattle.scenario.specs.Text.{Text}
-use Rattle.scenario.specs.Check.{fault, unless, basic_fault, fault_of, or_fault}
+use Rattle.scenario.specs.Check.{fault, basic_fault, fault_of, or_fault}
 use Rattle.scenario.specs.Limits.{event_fits}
 use Rattle.scenario.specs.Plans.{Frames, Plan, Ramp, Source, events_in, in_order, numbers_from, plan_at, source_frame, source_of, source_word}
 use Rattle.scenario.specs.Reads.{Seen, add, misplaced, in_body, frame_checks, words_in_fields, ramp_checks, ramp_of, params_of, link_checks, link_law, timing_checks, timing_law, timing_of, of_kind, of_known, kind_of, field, version_read, version_fault, is_start, is_whole, step, ended, over, nothing, reads, rows_of, word_limit}
 use Rattle.scenario.specs.laws.ReadingLaws.{IsLegalPlan, ReadsLegalPlans, ReadsPlans}
 use Rattle.scenario.specs.kept.Sound.{AreSound, IsInput, IsSound}
-use Rattle.scenario.proofs.SoundLemmas.{fault-None, first-None, or_fault-Ok, step-sound, unless-None}
+use Rattle.scenario.proofs.SoundLemmas.{fault-None, first-None, or_fault-Ok, step-sound}
 
 -- ---- the link obeys its laws where it is fixed
 

@@ -4,6 +4,7 @@ pub mod Check
 pub mod Reads
 pub mod Inputs
 pub mod Plans
+pub mod Generated
 pub mod Limits
 pub mod Answer
 pub mod Digits

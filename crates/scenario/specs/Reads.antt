@@ -1,7 +1,7 @@
 -- What an input says to a job, or the first thing that is wrong with it: a table of checks for each
 -- kind of record, and a fold over the records.
 -- Code: one record at a time, with an early exit.
-use Rattle.std.specs.Prelude.{◌≡◌, ℕ, zero, suc, ◌+◌, ◌-◌, ◌*◌, ◌/◌, ◌^◌, ◌==◌, ◌&&◌, ◌||◌, not, nat_lt, nat_le, Bool, true, false, List, [], ◌∷◌, ◌++◌, length, map, Option, Some, None, Result, Ok, Err, if◌then◌else◌, codes, is_some, is_none, unwrap_or, option_map, drop, ℤ, pos, neg_ℤ, int_le}
+use Rattle.std.specs.Prelude.{◌≡◌, ℕ, zero, suc, ◌+◌, ◌-◌, ◌*◌, ◌/◌, ◌^◌, ◌==◌, ◌&&◌, nat_lt, nat_le, Bool, true, false, List, [], ◌∷◌, ◌++◌, length, map, Option, Some, None, Result, Ok, Err, if◌then◌else◌, codes, is_some, is_none, unwrap_or, option_map, drop, ℤ, pos, neg_ℤ, int_le}
 use Rattle.std.specs.Str.{bytes_eq}
 use Rattle.std.specs.List.{list_all, slice_index_or}
 use Rattle.csv.specs.Reading.{default_config, records, strip_bom}

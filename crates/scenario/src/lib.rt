@@ -1,4 +1,5 @@
-//! Reads a scenario: the records of an input for the jobs `map`, `unmap` and `run`.
+//! Scenarios: read from the records of an input for the jobs `map`, `unmap` and `run`, or made from
+//! a number (`gen_scenario`); `replace_frames` puts other words in.
 //!
 //! ```text
 //! match read_scenario(alloc, Job::Map, b"jesd,1\nlink,b,1,1,1,1,8,8,0,0,0,17,0\nframe,a5\n") {
@@ -18,11 +19,16 @@
 mod body;
 mod cause;
 mod digits;
+mod drawn_link;
+mod drawn_lists;
+mod drawn_parts;
+mod draws;
 mod event;
 mod fault;
 mod finish;
 mod flip;
 mod frame;
+mod generated;
 mod input;
 mod jitter;
 mod kind;
@@ -33,6 +39,7 @@ mod ramp;
 mod read;
 mod reading;
 mod reading_laws;
+mod replace;
 mod report_row;
 mod row;
 mod run;
@@ -43,18 +50,22 @@ mod steps;
 #[cfg(test)]
 mod tests;
 #[cfg(test)]
+mod tests_generated;
+#[cfg(test)]
 mod tests_text;
 mod text;
 mod timing;
 
 pub use digits::write_digits;
 pub use fault::ScenarioFault;
+pub use generated::gen_scenario;
 pub use input::Input;
 pub use kind::Job;
 pub use line_text::LineText;
 pub use plan::{Event, Flip, Jitter, Print, What};
 pub use read::read_scenario;
-pub use reading_laws::readings;
+pub use reading_laws::{generated_plans, readings};
+pub use replace::replace_frames;
 pub use report_row::{Row, Totals};
 pub use scenario_type::Scenario;
 pub use source::source_frame;

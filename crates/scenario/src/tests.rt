@@ -5,7 +5,7 @@ use std::alloc::{AllocError, Global};
 
 const MIB_4: usize = 4194304;
 
-fn read(alloc: Global, job: Job, text: &[u8]) -> Result<Scenario, ScenarioFault> {
+pub fn read(alloc: Global, job: Job, text: &[u8]) -> Result<Scenario, ScenarioFault> {
     if text.len() > MIB_4 {
         return Err(ScenarioFault::NoMemory);
     }
@@ -391,7 +391,7 @@ fn what_a_run_says(rt: HostRuntime) {
     assert_eq!(rt; first_edges(&scenario), Some((3, 10)));
 }
 
-fn start_and_step(scenario: &Scenario) -> Option<(u32, u32)> {
+pub fn start_and_step(scenario: &Scenario) -> Option<(u32, u32)> {
     match &scenario.input {
         Input::Ramp { start, step } => Some((*start, *step)),
         Input::Frames(_) => None,
@@ -405,7 +405,7 @@ fn first_edges(scenario: &Scenario) -> Option<(u32, u32)> {
     }
 }
 
-fn words_of_frames(scenario: &Scenario) -> &[u32] {
+pub fn words_of_frames(scenario: &Scenario) -> &[u32] {
     match &scenario.input {
         Input::Ramp { .. } => &[],
         Input::Frames(words) => words.as_slice(),

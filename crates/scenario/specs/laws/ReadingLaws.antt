@@ -1,5 +1,5 @@
--- What the plan of an accepted input obeys (this project's own limits; the laws 1 to 17 are those
--- of `link_params`).
+-- What the plan of an accepted input obeys, and that of a number (this project's own limits; the
+-- laws 1 to 17 are those of `link_params`).
 -- Code: none of this is computed; the reader checks record by record.
 use Rattle.std.specs.Prelude.{◌≡◌, ◌≤◌, ◌<◌, ℕ, ◌*◌, List, true, length, slice_index, Some, None, Ok}
 use Rattle.std.specs.List.{All}
@@ -7,6 +7,7 @@ use Rattle.link_params.specs.Laws.{broken_law}
 use Rattle.link_params.specs.TimingLaws.{broken_timing}
 use Rattle.scenario.specs.declared.kind.Job.TheVariants as job
 use Rattle.scenario.specs.Limits.{event_fits, flip_fits, jitter_fits}
+use Rattle.scenario.specs.Generated.{generated}
 use Rattle.scenario.specs.Plans.{Plan, plan_read, source_frame}
 use Rattle.scenario.specs.Reads.{Seen, reads, word_limit}
 
@@ -32,3 +33,7 @@ ReadsLegalPlans = (bytes : List ℕ) (seen : Seen) (plan : Plan) → reads job.R
 abbrev pub ReadsPlans : Type 0
 ReadsPlans = (bytes : List ℕ) (seen : Seen) → reads job.Run bytes ≡ Ok seen
     → (plan : Plan) × (plan_read seen ≡ Some plan)
+
+-- the plan of each number is a legal one
+abbrev pub GeneratesLegalPlans : Type 0
+GeneratesLegalPlans = (number : ℕ) → IsLegalPlan (generated number)

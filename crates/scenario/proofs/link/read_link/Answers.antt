@@ -1,5 +1,5 @@
-use Rattle.std.proofs.Common.{rules, ◌≡◌, ◌∙◌, ap, Some, None, refl, length}
-use Rattle.scenario.specs.Reads.{texts_of, link_checks, link_law, params_of}
+use Rattle.std.proofs.Common.{rules, ◌≡◌, ◌∙◌, Some, None, refl, length}
+use Rattle.scenario.specs.Reads.{texts_of, link_checks, link_law}
 use Rattle.scenario.proofs.CheckLemmas.{fault_of-none, fault_of-more, fault_of-basic, link_law-is}
 use Rattle.scenario.proofs.link.read_link.Goals as goal
 
