@@ -14,7 +14,8 @@ use Rattle.link_model.specs.Orders.{Observed, from_edge, order_c, tx_order}
 use Rattle.link_run.specs.declared.alignment.Alignment.{Alignment}
 use Rattle.link_run.specs.declared.sending.Sending.TheVariants.{Octets, Blocks}
 use Rattle.link_run.specs.kept.Alignments.{GoesOnTo as GoesOnToB, next_of as next_of_octets}
-use Rattle.link_run.specs.kept.Sendings.{BlocksGoOn, FollowsOn, GoesOnTo, HasObserved, next_after, next_of_blocks}
+use Rattle.lane_threads.specs.kept.LaneEnds.{FollowsOn, next_after}
+use Rattle.link_run.specs.kept.Sendings.{BlocksGoOn, GoesOnTo, HasObserved, next_of_blocks}
 
 pub mode-is : (m : Mode) → is_b m ≡ true → m ≡ B
 mode-is B e = refl

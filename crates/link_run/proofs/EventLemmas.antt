@@ -22,7 +22,8 @@ use Rattle.link_model.specs.Edges.{is_reset, resets}
 use Rattle.link_model.specs.kept.LaneRuns.{LaneRun}
 use Rattle.link_run.proofs.PlanFacts.{plan-facts}
 use Rattle.link_run.specs.kept.Happened.{AreAsBefore, as_of}
-use Rattle.link_run.specs.kept.LaneRuns.{AreAt, HasRunLane, HaveRunLanes, Pair, with_lane}
+use Rattle.lane_threads.specs.kept.LaneRuns.{HasRunLane, Pair}
+use Rattle.link_run.specs.kept.LaneRuns.{AreAt, HaveRunLanes, with_lane}
 
 -- the ticks do not fall, and are at least a
 abbrev pub Ascends : List Event → ℕ → Type 0

@@ -19,10 +19,10 @@ use Rattle.scenario.specs.Limits.{flip_fits}
 use Rattle.scenario.specs.Plans.{Plan, numbers_from}
 use Rattle.link_model.specs.Kinds.{kind_of}
 use Rattle.link_model.specs.kept.LaneRuns.{LaneRun, held_by, no_run, stepped}
-use Rattle.link_run.specs.kept.LaneEnds.{buffer_in, next_in, params_in}
-use Rattle.link_run.specs.kept.LaneRuns.{AreAt, HasRunLane, HaveRunLanes, Pair}
-use Rattle.link_run.specs.kept.Sendings.{next_after}
-use Rattle.link_run.proofs.KindEnds.{buffer-count}
+use Rattle.lane_threads.specs.kept.LaneEnds.{buffer_in, next_after, next_in, params_in}
+use Rattle.lane_threads.specs.kept.LaneRuns.{HasRunLane, Pair}
+use Rattle.link_run.specs.kept.LaneRuns.{AreAt, HaveRunLanes}
+use Rattle.lane_threads.proofs.KindEnds.{buffer-count}
 
 -- the first n lanes have changed as R says of a lane before and after, and the others are as they
 -- were

@@ -12,7 +12,8 @@ use Rattle.link_model.specs.Moments.{History}
 use Rattle.link_run.proofs.FeedLemmas.{some_plan}
 use Rattle.link_run.proofs.PlanFacts.{plan-facts}
 use Rattle.link_run.specs.kept.Happened.{AreAsBefore, as_of}
-use Rattle.link_run.specs.kept.LaneRuns.{HasRunLane, HaveRunLanes, Pair}
+use Rattle.lane_threads.specs.kept.LaneRuns.{HasRunLane, Pair}
+use Rattle.link_run.specs.kept.LaneRuns.{HaveRunLanes}
 
 pub have-same : (now : List Pair) (s : Plan) (f g : ℕ → LaneRun)
     → ((lane : ℕ) → lane < s.link.params.l → f lane ≡ g lane) → HaveRunLanes now s f → HaveRunLanes now s g

@@ -6,8 +6,6 @@ pub mod FeedLemmas
 pub mod Handing
 pub mod PlanFacts
 pub mod LinkFacts
-pub mod KindEnds
-pub mod PairLemmas
 pub mod FlipLemmas
 pub mod LaneLemmas
 pub mod PrintedRows

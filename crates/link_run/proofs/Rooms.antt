@@ -13,8 +13,9 @@ use Rattle.link_model.specs.Kinds.{kind_of, moment_of, run_of}
 use Rattle.link_model.specs.kept.LaneRuns.{lane_ready, lane_stepped}
 use Rattle.link_model.specs.Moments.{History}
 use Rattle.link_model.specs.Receives.{told_of}
-use Rattle.link_run.proofs.KindEnds.{buffer-count}
-use Rattle.link_run.specs.kept.LaneRuns.{HaveRunLanes, HaveEntries, HaveRoom, Pair}
+use Rattle.lane_threads.proofs.KindEnds.{buffer-count}
+use Rattle.lane_threads.specs.kept.LaneRuns.{Pair}
+use Rattle.link_run.specs.kept.LaneRuns.{HaveRunLanes, HaveEntries, HaveRoom}
 
 -- the link is legal
 pub record IsGood (k : Link) : Type 0 where

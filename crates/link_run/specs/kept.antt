@@ -3,7 +3,6 @@ pub mod Alignments
 pub mod Clocked
 pub mod Gathered
 pub mod Happened
-pub mod LaneEnds
 pub mod LaneRuns
 pub mod LinkStates
 pub mod Printing

@@ -1,5 +1,5 @@
 //! What a transmitter of 8b/10b lanes sends, tick by tick.
-ghost use Rattle.std.specs.Prelude.{◌≡◌, ◌≤◌, ◌<◌, ◌+◌, ◌%◌, ◌++◌, ◌∷◌, [], false, List, None, IfSome};
+ghost use Rattle.std.specs.Prelude.{◌≡◌, ◌≤◌, ◌<◌, ◌++◌, ◌∷◌, [], false, List, None, IfSome};
 ghost use Rattle.link_params.specs.declared.fields.Params.{Params as ParamsValue};
 ghost use Rattle.link_params.specs.declared.fields.Mode.TheVariants.{B};
 ghost use Rattle.link_params.specs.Numbers.{period as period_of};
@@ -8,7 +8,7 @@ ghost use Rattle.link_model.specs.Orders.{Observed, tx_order};
 ghost use Rattle.link_model.specs.Sends.{data_place};
 ghost use Rattle.link_run.specs.kept.Alignments.{GoesOnTo, HasObserved, next_of};
 
-use link_params::TxOrder;
+use link_params::{TxOrder, place_after};
 
 /// Where a transmitter of 8b/10b lanes stands (JESD204B.01 clauses 5.3.3.1, code group
 /// synchronization, and 5.3.3.5, initial lane alignment).
@@ -99,13 +99,4 @@ impl Alignment {
             }
         }
     }
-}
-
-// The place after place x of a period.
-pub(crate) fn place_after(x: u32, period: u32) -> u32
-    requires { 1 ≤ period }
-    ensures next { x < period → result ≡ (x + 1) % period }
-    ensures below { result < period }
-{
-    if x < period - 1 { x + 1 } else { 0 }
 }

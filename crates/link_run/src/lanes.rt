@@ -6,13 +6,13 @@ ghost use Rattle.scenario.specs.Plans.{Plan, numbers_from};
 ghost use Rattle.lane_c.specs.kept.Receivers.{IsArmedOn};
 ghost use Rattle.link_model.specs.Kinds.{kind_of};
 ghost use Rattle.link_model.specs.kept.LaneRuns.{LaneRun, given_by, held_by, no_run, stepped};
-ghost use Rattle.link_run.specs.kept.LaneEnds.{IsSmall, MayFollow};
-ghost use Rattle.link_run.specs.kept.LaneRuns.{AreAt, HaveEntries, HaveRoom, HaveRunLanes, Pair, with_lane};
-ghost use Rattle.link_run.specs.kept.Sendings.{next_after};
+ghost use Rattle.lane_threads.specs.kept.LaneEnds.{IsSmall, MayFollow, next_after};
+ghost use Rattle.lane_threads.specs.kept.LaneRuns.{Pair};
+ghost use Rattle.link_run.specs.kept.LaneRuns.{AreAt, HaveEntries, HaveRoom, HaveRunLanes, with_lane};
 
 use crate::flips::inverted_bits;
-use crate::lane_pair::LanePair;
 use jesd_base::NoMemory;
+use lane_threads::Lane;
 use link_params::{LaneCell, LaneReport, Link, RxOrder, TxOrder};
 use scenario::Flip;
 use std::alloc::Global;
@@ -21,12 +21,12 @@ use std::marker::Model;
 /// All lanes of a run, in ascending order. Contracts see it as their list.
 #[derive(Drop)]
 pub struct Lanes {
-    pairs: Vec<LanePair>,
+    pairs: Vec<Lane>,
 }
 
 impl Model for Lanes {
     ghost use Rattle.std.specs.Prelude.{◌≤◌, List, vec_len};
-    ghost use Rattle.link_run.specs.kept.LaneRuns.{Pair};
+    ghost use Rattle.lane_threads.specs.kept.LaneRuns.{Pair};
 
     ghost Value = { List Pair };
 
@@ -48,7 +48,7 @@ impl Lanes {
         let mut pairs = Vec::new(alloc);
         for lane in 0..link.shape().lanes() {
             let inverted = inverted_bits(alloc, flips, lane)?;
-            let pair = LanePair::open(alloc, link, lane, inverted)?;
+            let pair = Lane::open(alloc, link, lane, inverted)?;
             if pairs.push(pair).is_err() {
                 return Err(NoMemory);
             }

@@ -6,8 +6,8 @@ ghost use Rattle.link_model.specs.Orders.{Observed};
 ghost use Rattle.link_model.specs.Sends.{data_place};
 ghost use Rattle.link_run.specs.kept.Sendings.{BlocksGoOn, GoesOnTo, HasObserved, next_of};
 
-use crate::alignment::{Alignment, place_after};
-use link_params::{Mode, TxOrder};
+use crate::alignment::Alignment;
+use link_params::{Mode, TxOrder, place_after};
 
 /// Where a transmitter stands.
 #[derive(Clone, Copy, Debug, PartialEq, Eq)]

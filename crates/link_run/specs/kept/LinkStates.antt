@@ -17,9 +17,11 @@ use Rattle.link_model.specs.kept.LaneRuns.{lane_ready, lane_run, lane_stepped}
 use Rattle.link_model.specs.Moments.{History}
 use Rattle.link_run.specs.kept.Gathered.{Gathering, HasGathered, Whole, delivered_of}
 use Rattle.link_run.specs.kept.Happened.{are_past}
-use Rattle.link_run.specs.kept.LaneRuns.{AreAt, HaveRunLanes, Pair}
+use Rattle.lane_threads.specs.kept.LaneRuns.{Pair}
+use Rattle.link_run.specs.kept.LaneRuns.{AreAt, HaveRunLanes}
 use Rattle.link_run.specs.kept.ReceiverRuns.{HasReceivedRun, RxEnd}
-use Rattle.link_run.specs.kept.Sendings.{Follows, next_after, next_of}
+use Rattle.lane_threads.specs.kept.LaneEnds.{Follows, next_after}
+use Rattle.link_run.specs.kept.Sendings.{next_of}
 use Rattle.link_run.specs.kept.Transmitters.{HasSentRun, TxEnd}
 
 -- the link, the place of the next event, both ends, the lanes, what they gave last, and the frame

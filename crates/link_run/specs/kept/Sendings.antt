@@ -5,12 +5,11 @@ use Rattle.link_params.specs.declared.fields.Params.{Params}
 use Rattle.link_params.specs.declared.orders.TxOrder.{TxOrder}
 use Rattle.link_params.specs.Laws.{is_b}
 use Rattle.link_params.specs.Numbers.{period}
-use Rattle.lane_b.specs.kept.Senders.{Follows as FollowsB}
 use Rattle.lane_c.specs.kept.Senders.{Follows as FollowsC}
 use Rattle.link_run.specs.declared.sending.Sending.{Sending}
 use Rattle.link_run.specs.declared.sending.Sending.TheVariants.{Octets, Blocks}
 use Rattle.link_model.specs.Orders.{Observed, from_edge, order_c, tx_order}
-use Rattle.link_model.specs.Sends.{data_place}
+use Rattle.lane_threads.specs.kept.LaneEnds.{Follows, next_after}
 use Rattle.link_run.specs.kept.Alignments.{HasObserved as HasObservedB, next_of as next_of_octets}
 
 -- the place of the next block, once one was sent
@@ -21,18 +20,6 @@ next_of_blocks p last = option_map (λ x. suc x % period p) last
 abbrev pub next_of : Params → Sending → Option ℕ
 next_of p (Octets a) = next_of_octets p a
 next_of p (Blocks last) = next_of_blocks p last
-
--- the same after a tick with this order
-abbrev pub next_after : Params → TxOrder → Option ℕ
-next_after p order = option_map (λ x. suc x % period p) (data_place order)
-
--- an order that lanes of either kind can be given next: 8b/10b, or 64b/66b
-abbrev pub FollowsOn : Bool → Params → Option ℕ → TxOrder → Type 0
-FollowsOn true p next order = FollowsB p next order
-FollowsOn false p next order = FollowsC next order
-
-abbrev pub Follows : Params → Option ℕ → TxOrder → Type 0
-Follows p next order = FollowsOn (is_b p.mode) p next order
 
 -- the ticks since the first edge, that of the last block the last one
 abbrev pub HasObservedC : Option ℕ → Params → List Observed → Type 0

@@ -13,7 +13,8 @@ use Rattle.link_model.specs.Moments.{History}
 use Rattle.link_model.specs.Sends.{data_place, frames_before, observed, order_of}
 use Rattle.link_run.specs.kept.Clocked.{Clocking, HasClocked}
 use Rattle.link_run.specs.kept.Seen.{Fed, HasFed, HasSynced}
-use Rattle.link_run.specs.kept.Sendings.{Follows, HasObserved, next_after, next_of}
+use Rattle.lane_threads.specs.kept.LaneEnds.{Follows, next_after}
+use Rattle.link_run.specs.kept.Sendings.{HasObserved, next_of}
 
 -- its clock, SYNC~ as it will see it, where it stands, the frame that began last, and what each
 -- lane was handed last

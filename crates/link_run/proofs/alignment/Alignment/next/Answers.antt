@@ -1,4 +1,4 @@
-use Rattle.std.proofs.Common.{◌+◌, ◌*◌, ◌<◌, ◌≤◌, refl, sym, ◌∙◌, arith}
+use Rattle.std.proofs.Common.{◌≡◌, suc, ◌+◌, ◌*◌, ◌%◌, ◌<◌, ◌≤◌, refl, sym, ap, ◌∙◌, arith}
 use Rattle.link_model.proofs.OrderLemmas.{boundary-is}
 use Rattle.link_run.proofs.OrderLemmas.{idle, begins, waits, aligns, ends, streams}
 use Rattle.link_run.proofs.alignment.Alignment.next.Goals as goal
@@ -29,4 +29,5 @@ returns-in-Aligning-2-clause-goes_on c = rw c.in-Aligning.is (λ p observed b sa
 pub returns-in-Streaming-clause-goes_on : goal.returns-in-Streaming-clause-goes_on
 returns-in-Streaming-clause-goes_on c = rw c.in-Streaming.is (λ p observed b same was.
     streams p observed _ c.in-Streaming.x _ b refl (rw same c.requires.short)
-    (rw same c.place_after-place.ensures.next) was)
+    (rw same (λ lt. c.place_after-place.ensures.next lt ∙ ap (λ n. n % c.args.period)
+    (let e : suc c.in-Streaming.x ≡ c.in-Streaming.x + 1 = omega arith in e))) was)

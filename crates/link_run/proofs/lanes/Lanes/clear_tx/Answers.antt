@@ -1,5 +1,6 @@
 use Rattle.std.proofs.Common.{[], List, None, ◌∙◌, ap, arith, get_or, length, refl, subst, sym}
-use Rattle.link_run.specs.kept.LaneRuns.{AreAt, HaveRunLanes, Pair}
+use Rattle.lane_threads.specs.kept.LaneRuns.{Pair}
+use Rattle.link_run.specs.kept.LaneRuns.{AreAt, HaveRunLanes}
 use Rattle.link_run.proofs.LaneLemmas.{IsCleared, are-at, changed-more, changed-none, have-run, written-back}
 use Rattle.link_run.proofs.lanes.Lanes.clear_tx.Goals as goal
 

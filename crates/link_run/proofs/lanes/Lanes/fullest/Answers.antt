@@ -1,6 +1,7 @@
 use Rattle.std.proofs.Common.{List, ◌∙◌, ap, ap₂, fold, map, max, refl, subst, sym}
 use Rattle.std.proofs.lemmas.List.{take_all}
-use Rattle.link_run.specs.kept.LaneRuns.{HaveRunLanes, Pair}
+use Rattle.lane_threads.specs.kept.LaneRuns.{Pair}
+use Rattle.link_run.specs.kept.LaneRuns.{HaveRunLanes}
 use Rattle.link_run.proofs.LaneLemmas.{all-held, held-more, held_in}
 use Rattle.link_run.proofs.lanes.Lanes.fullest.Goals as goal
 

@@ -1,8 +1,9 @@
 use Rattle.std.proofs.Common.{◌<◌, ◌+◌, List, ◌∙◌, ap, arith, get_or, length, subst, sym}
-use Rattle.link_run.specs.kept.LaneRuns.{AreAt, HaveRunLanes, Pair}
+use Rattle.lane_threads.specs.kept.LaneRuns.{Pair}
+use Rattle.link_run.specs.kept.LaneRuns.{AreAt, HaveRunLanes}
 use Rattle.link_model.specs.Kinds.{kind_of}
 use Rattle.link_model.specs.kept.LaneRuns.{given_by}
-use Rattle.link_run.specs.kept.LaneEnds.{buffer_in, next_in, params_in}
+use Rattle.lane_threads.specs.kept.LaneEnds.{buffer_in, next_in, params_in}
 use Rattle.link_run.proofs.LaneLemmas.{HasGiven, IsGiven, all-written, are-at, changed-more, changed-none, have-run, written-more, written-none}
 use Rattle.link_run.proofs.lanes.Lanes.give.Goals as goal
 

@@ -3,7 +3,7 @@ use Rattle.std.specs.Prelude.{All, if◌then◌else◌}
 use Rattle.scenario.specs.declared.plan.Flip.{Flip}
 use Rattle.link_params.specs.Links.{Link}
 use Rattle.link_params.specs.Numbers.{width}
-use Rattle.link_run.specs.kept.LaneRuns.{Pair}
+use Rattle.lane_threads.specs.kept.LaneRuns.{Pair}
 use Rattle.link_run.proofs.LaneLemmas.{AreOpened, IsOpened, fits-within, opened-more, opened-none}
 use Rattle.link_run.proofs.lanes.Lanes.open.Goals as goal
 

@@ -1,6 +1,7 @@
 use Rattle.std.proofs.Common.{◌<◌, List, ap, arith, length, subst, sym}
 use Rattle.link_model.specs.Kinds.{kind_of}
-use Rattle.link_run.specs.kept.LaneRuns.{HaveRunLanes, Pair}
+use Rattle.lane_threads.specs.kept.LaneRuns.{Pair}
+use Rattle.link_run.specs.kept.LaneRuns.{HaveRunLanes}
 use Rattle.link_run.proofs.LaneLemmas.{IsReport, all-written, written-more, written-none}
 use Rattle.link_run.proofs.lanes.Lanes.report.Goals as goal
 

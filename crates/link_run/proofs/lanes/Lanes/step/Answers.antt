@@ -2,9 +2,9 @@ use Rattle.std.proofs.Common.{◌≡◌, ◌<◌, List, ◌∙◌, ap, arith, ge
 use Rattle.std.specs.Prelude.{slice_index}
 use Rattle.link_model.specs.Kinds.{kind_of}
 use Rattle.link_model.specs.kept.LaneRuns.{stepped}
-use Rattle.link_run.specs.kept.LaneEnds.{IsSmall, MayFollow, buffer_in}
-use Rattle.link_run.specs.kept.LaneRuns.{AreAt, HaveRunLanes, Pair}
-use Rattle.link_run.specs.kept.Sendings.{next_after}
+use Rattle.lane_threads.specs.kept.LaneEnds.{IsSmall, MayFollow, buffer_in, next_after}
+use Rattle.lane_threads.specs.kept.LaneRuns.{Pair}
+use Rattle.link_run.specs.kept.LaneRuns.{AreAt, HaveRunLanes}
 use Rattle.link_run.proofs.LaneLemmas.{HasStepped, are-at, changed-more, changed-none, have-run-below, written-back}
 use Rattle.link_run.proofs.lanes.Lanes.step.Goals as goal
 

@@ -17,7 +17,8 @@ use Rattle.link_model.proofs.KindFacts.{lead}
 use Rattle.link_model.proofs.NextMoment.{lanes_of}
 use Rattle.link_model.proofs.NumberLists.{length-numbers}
 use Rattle.link_run.specs.kept.Gathered.{Gathering, HasGathered}
-use Rattle.link_run.specs.kept.LaneRuns.{AreAt, Pair}
+use Rattle.lane_threads.specs.kept.LaneRuns.{Pair}
+use Rattle.link_run.specs.kept.LaneRuns.{AreAt}
 use Rattle.link_run.specs.kept.LinkStates.{CanGive, LinkView, columns_left}
 use Rattle.link_run.proofs.GiveFacts.{begun-few, columns-early, columns-late, columns-still, delivered-frames, delivered-nothing, have-words, lane-gave, lane-still, no-words, still-gathered, with_tick}
 use Rattle.link_run.proofs.LaneStates.{have-same, link-of, plan-there}

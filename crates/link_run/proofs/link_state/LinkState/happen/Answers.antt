@@ -3,7 +3,8 @@ use Rattle.link_params.specs.declared.alarms.Device.TheVariants.{Tx, Rx}
 use Rattle.link_model.specs.Edges.{is_reset}
 use Rattle.link_run.specs.kept.Happened.{are_past}
 use Rattle.link_model.specs.kept.LaneRuns.{lane_run}
-use Rattle.link_run.specs.kept.LaneRuns.{AreAt, Pair}
+use Rattle.lane_threads.specs.kept.LaneRuns.{Pair}
+use Rattle.link_run.specs.kept.LaneRuns.{AreAt}
 use Rattle.link_run.specs.kept.LinkStates.{HasRun, LinkView}
 use Rattle.link_model.specs.Kinds.{kind_of, run_of}
 use Rattle.link_run.specs.kept.Sendings.{next_of}

@@ -1,19 +1,13 @@
-use Rattle.std.proofs.Common.{◌≡◌, ◌∙◌, ◌<◌, Bool, ℕ, true, false, length, List, [], get_or, slice_index, if◌then◌else◌, Option, arith, sym, ap, subst}
+use Rattle.std.proofs.Common.{◌≡◌, ◌∙◌, ◌<◌, ℕ, false, length, List, [], get_or, slice_index, if◌then◌else◌, arith, sym, ap, subst}
 use Rattle.std.proofs.lemmas.List.{length-map}
-use Rattle.link_params.specs.declared.fields.Params.{Params}
-use Rattle.link_params.specs.declared.orders.TxOrder.{TxOrder}
 use Rattle.link_params.specs.declared.orders.RxOrder.{RxOrder}
-use Rattle.link_params.specs.Lanes.{Handed, LaneKind}
-use Rattle.link_params.specs.Laws.{is_b}
+use Rattle.link_params.specs.Lanes.{LaneKind}
 use Rattle.lane_c.specs.kept.Receivers.{IsArmedOn}
 use Rattle.scenario.specs.Plans.{Plan}
-use Rattle.link_run.specs.declared.tx_lane.TxLane.{TxLane}
-use Rattle.link_run.specs.declared.tx_lane.TxLane.TheVariants as tx
 use Rattle.link_run.specs.kept.Gathered.{Gathering, HasGathered}
-use Rattle.link_run.specs.kept.LaneEnds.{HasSent, IsSmall, MayFollow, next_in, params_in}
-use Rattle.link_run.specs.kept.LaneRuns.{Pair}
+use Rattle.lane_threads.proofs.KindEnds.{is-small, may-follow}
+use Rattle.lane_threads.specs.kept.LaneRuns.{Pair}
 use Rattle.link_run.specs.kept.LinkStates.{CanStep, LinkView, columns_of}
-use Rattle.link_run.specs.kept.Sendings.{Follows, FollowsOn}
 use Rattle.link_model.proofs.ArmedHistory.{armed-on, armed-run}
 use Rattle.link_model.proofs.LaneHistory.{has-hunt-run, lane-stepped, session-goes-on}
 use Rattle.link_model.proofs.NextMoment.{handed-next, lanes_of, told-next}
@@ -27,19 +21,6 @@ use Rattle.link_model.specs.Sends.{data_place, frames_before, handed_to}
 use Rattle.link_run.proofs.LaneStates.{have-same, link-of, plan-there}
 use Rattle.link_run.proofs.Rooms.{IsGood, ready-room}
 use Rattle.link_run.proofs.link_state.LinkState.step.Goals as goal
-
--- a lane may be given an order that follows
-may-follow : (x : TxLane) (p : Params) (lane : ℕ) (handed : List Handed) (next : Option ℕ)
-    (order : TxOrder) → HasSent x p lane handed → params_in x ≡ p → next_in x ≡ next
-    → Follows p next order → MayFollow x order
-may-follow (tx.B x) p lane handed next order sent params at follows =
-    let on : FollowsOn true p next order =
-    subst (λ (b : Bool). FollowsOn b p next order) sent.0 follows in
-    rw (params, at) on
-may-follow (tx.C x) p lane handed next order sent params at follows =
-    let on : FollowsOn false p next order =
-    subst (λ (b : Bool). FollowsOn b p next order) sent.0 follows in
-    rw at on
 
 -- each lane is handed a number
 length-handed : (s : Plan) (h : History) → length (moment_of s h).handed ≡ s.link.params.l
@@ -59,12 +40,6 @@ stays-armed s t lane told is goes =
     subst (IsArmedOn (taken_in (current h) lane)) (sym (is ∙ told-next k s h))
     (subst (λ (l : History). IsArmedOn (taken_in l lane) (told_of s h)) same
     (armed-on k s h lane (armed-run k t s)))
-
--- a number that a lane can be handed
-is-small : (x : TxLane) (p : Params) (lane v : ℕ) (handed : List Handed) → HasSent x p lane handed
-    → (is_b p.mode ≡ true → v < 256) → IsSmall x v
-is-small (tx.B x) p lane v handed sent small = small sent.0
-is-small (tx.C x) p lane v handed sent small = tt
 
 pub step-requires-clause-follows : goal.step-requires-clause-follows
 step-requires-clause-follows c = λ lane d below.

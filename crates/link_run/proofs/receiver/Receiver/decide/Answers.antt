@@ -9,7 +9,8 @@ use Rattle.scenario.specs.Plans.{Plan, numbers_from}
 use Rattle.link_model.specs.Moments.{History}
 use Rattle.link_model.specs.Kinds.{kind_of, moment_of, run_of}
 use Rattle.link_model.specs.kept.LaneRuns.{lane_stepped}
-use Rattle.link_run.specs.kept.LaneRuns.{HaveRunLanes, Pair}
+use Rattle.lane_threads.specs.kept.LaneRuns.{Pair}
+use Rattle.link_run.specs.kept.LaneRuns.{HaveRunLanes}
 use Rattle.link_model.specs.kept.LaneRuns.{LaneRun}
 use Rattle.link_run.specs.kept.ReceiverRuns.{HasToldTick, decisions_left}
 use Rattle.link_model.proofs.Depth.{length-reports}

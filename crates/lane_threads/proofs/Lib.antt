@@ -1,0 +1,4 @@
+pub mod KindEnds
+pub mod PairLemmas
+pub mod SegmentLemmas
+pub mod LaneLists

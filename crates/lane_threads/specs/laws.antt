@@ -1,0 +1,2 @@
+-- What functions with empty bodies carry; each statement is proved.
+pub mod SegmentLaws

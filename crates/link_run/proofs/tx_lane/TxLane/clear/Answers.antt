@@ -1,9 +1,0 @@
-use Rattle.std.proofs.Common.{subst}
-use Rattle.link_run.specs.kept.LaneEnds.{HasSent}
-use Rattle.link_run.specs.declared.tx_lane.TxLane.{TxLane}
-use Rattle.link_run.proofs.tx_lane.TxLane.clear.Goals as goal
-
-pub returns-in-C-clause-sent : goal.returns-in-C-clause-sent
-returns-in-C-clause-sent c = λ p lane handed was.
-    let old = subst (λ (x : TxLane). HasSent x p lane handed) c.in-C.is was in
-    (old.0, c.clear-in-C.ensures.sent p handed old.1)
