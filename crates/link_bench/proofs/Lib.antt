@@ -1,3 +1,4 @@
 pub mod LineLemmas
 pub mod RunRead
 pub mod CauseLemmas
+pub mod GeneratedLemmas

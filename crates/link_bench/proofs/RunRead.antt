@@ -1,5 +1,5 @@
 -- What an input says that was read for `run`, and what its scenario obeys.
-use Rattle.std.proofs.Common.{◌≡◌, ◌∙◌, ℕ, ◌<◌, true, Option, Some, None, Ok, Err, option_map, List, IsTrue, is_some, refl, sym, ap}
+use Rattle.std.proofs.Common.{◌≡◌, ◌∙◌, ℕ, Option, Some, None, Ok, Err, List, IsTrue, is_some, refl, sym}
 use Rattle.std.specs.Prelude.{Result}
 use Rattle.link_params.specs.Laws.{broken_law}
 use Rattle.link_params.specs.Links.{Link}
@@ -17,8 +17,10 @@ use Rattle.link_run.proofs.PlanFacts.{plan-facts}
 use Rattle.link_laws.specs.Laws.{IsPlanRead}
 use Rattle.link_laws_c.specs.RunLaws.{RunLaws}
 use Rattle.link_laws_c.proofs.RunsByLaws.{runs-by-laws}
+use Rattle.scenario.specs.Generated.{generated}
 use Rattle.link_bench.specs.Lawful.{RunsAreLawful}
 use Rattle.link_bench.specs.kept.Scenarios.{IsReady}
+use Rattle.scenario.proofs.GeneratedLaws.{generates-legal-plans}
 
 -- ---- a scenario that was read for a job is ready for it
 
@@ -51,9 +53,12 @@ legal-read plan legal = record {
 }
 
 pub runs_are_lawful : RunsAreLawful
-runs_are_lawful bytes seen plan e is =
-    let legal = reads-legal-plans bytes seen plan e is in
-    runs-by-laws plan (legal-read plan legal)
+runs_are_lawful = record {
+  of_inputs = λ bytes seen plan e is.
+      runs-by-laws plan (legal-read plan (reads-legal-plans bytes seen plan e is));
+  of_numbers = λ number.
+      runs-by-laws (generated number) (legal-read (generated number) (generates-legal-plans number));
+}
 
 -- the plan of a scenario, whose link obeys its laws
 pub scenario-read : (s : Scenario) (plan : Plan) → plan_of s ≡ Some plan

@@ -1,5 +1,5 @@
 -- What the words ask for, and what is due for an input.
-use Rattle.std.specs.Prelude.{◌≡◌, ℕ, List, ◌++◌, Option, Some, None, Result, Ok, Err, codes, decimal, option_and_then}
+use Rattle.std.specs.Prelude.{◌≡◌, ℕ, List, ◌++◌, ◌-◌, length, take, drop, Option, Some, None, Result, Ok, Err, codes, decimal, option_map}
 use Rattle.link_params.specs.declared.fields.Params.{Params}
 use Rattle.bench_words.specs.Reading.{asked_by_words}
 use Rattle.bench_words.specs.declared.asked.Task.{Task}
@@ -11,19 +11,21 @@ use Rattle.scenario.specs.Answer.{shape_of}
 use Rattle.scenario.specs.Plans.{Plan, plan_read}
 use Rattle.scenario.specs.Reads.{Seen, Refusal, reads}
 use Rattle.link_model.specs.Kinds.{report_of, run_of}
-use Rattle.link_model.specs.Report.{totals}
+use Rattle.link_model.specs.Report.{Printed, lines, rows, totals}
+use Rattle.link_bench.specs.declared.asked.Asked.{Asked}
+use Rattle.link_bench.specs.declared.asked.Asked.TheVariants.{Input, Generated}
 use Rattle.link_bench.specs.Lines.{IsMapped, IsUnmapped}
 
--- the job of a task; `gen` is not built yet
-abbrev pub job_of : Task → Option Job
-job_of task.Map = Some job.Map
-job_of task.Unmap = Some job.Unmap
-job_of task.Run = Some job.Run
-job_of task.Gen = None
+-- what a task asks for: a job on the input, or the run of the scenario of a number
+abbrev pub asked_for : Task → ℕ → Asked
+asked_for task.Map number = Input job.Map
+asked_for task.Unmap number = Input job.Unmap
+asked_for task.Run number = Input job.Run
+asked_for task.Gen number = Generated number
 
--- the job that the words ask for, None where they are refused
-abbrev pub asked_job : List (List ℕ) → Option Job
-asked_job words = option_and_then (λ (w : Words). job_of w.task) (asked_by_words words)
+-- what the words ask for, None where they are refused
+abbrev pub asked : List (List ℕ) → Option Asked
+asked words = option_map (λ (w : Words). asked_for w.task w.number) (asked_by_words words)
 
 abbrev pub usage : List ℕ
 usage = codes "usage: jesd_bench JOB [--workers N] [--number N]\n"
@@ -48,15 +50,19 @@ IsText job.Run seen text = (plan : Plan) × (plan_read seen ≡ Some plan)
     × (text ≡ report_of plan)
 
 -- how many alarms the run of a plan raises
-abbrev pub alarms_in : Option Plan → ℕ
-alarms_in None = 0
-alarms_in (Some plan) = (totals plan (run_of plan plan.ticks)).alarms
+abbrev pub alarms_in : Plan → ℕ
+alarms_in plan = (totals plan (run_of plan plan.ticks)).alarms
+
+-- none where there is no plan
+abbrev pub alarms_in_any : Option Plan → ℕ
+alarms_in_any None = 0
+alarms_in_any (Some plan) = alarms_in plan
 
 -- how many alarms a job raises; only a run raises any
 abbrev pub alarms_of : Job → Seen → ℕ
 alarms_of job.Map seen = 0
 alarms_of job.Unmap seen = 0
-alarms_of job.Run seen = alarms_in (plan_read seen)
+alarms_of job.Run seen = alarms_in_any (plan_read seen)
 
 -- what is due for an input that was read to its end
 abbrev pub IsDueFor : Job → Result Seen Refusal → List ℕ → Type 0
@@ -65,3 +71,11 @@ IsDueFor j (Err b) text = text ≡ bad_line b
 
 abbrev pub IsDue : Job → List ℕ → List ℕ → Type 0
 IsDue j bytes text = IsDueFor j (reads j bytes) text
+
+-- the first row and the last one
+abbrev pub first_and_last_rows : List Printed → List Printed
+first_and_last_rows all = take 1 all ++ drop (length all - 1) all
+
+-- the first line and the last line of the report of a plan's run
+abbrev pub first_and_last : Plan → List ℕ
+first_and_last plan = lines plan (first_and_last_rows (rows plan (run_of plan plan.ticks)))

@@ -8,18 +8,24 @@
 //! ```
 #![tactic(auto)]
 
+mod asked;
 mod digits;
+mod generated;
 mod lines;
 mod link;
+mod on_input;
 #[cfg(test)]
 mod tests;
 #[cfg(test)]
 mod tests_blocks;
 #[cfg(test)]
+mod tests_generated;
+#[cfg(test)]
 mod tests_lanes;
 #[cfg(test)]
 mod tests_run;
 mod top;
+mod written;
 
 pub use link::run_link;
 pub use top::bench;

@@ -109,7 +109,7 @@ fn worked_examples(rt: HostRuntime) -> Result<(), Fail> {
             Status::BadScenario,
             b"bad,3,11,0\n",
         ),
-        (&["gen"], TWELVE_BITS, Status::BadWords, USAGE),
+        (&["gen", "gen"], TWELVE_BITS, Status::BadWords, USAGE),
         (
             &["--", "map"],
             TWELVE_BITS,

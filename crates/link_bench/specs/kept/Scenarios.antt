@@ -6,7 +6,7 @@ use Rattle.scenario.specs.declared.scenario_type.Scenario.{Scenario}
 use Rattle.scenario.specs.Inputs.{input_words}
 use Rattle.scenario.specs.Plans.{Plan, plan_of}
 use Rattle.link_model.specs.Kinds.{report_of}
-use Rattle.link_bench.specs.Jobs.{alarms_in}
+use Rattle.link_bench.specs.Jobs.{alarms_in_any}
 use Rattle.link_bench.specs.Lines.{IsMapped, IsUnmapped}
 
 -- the text of a job
@@ -19,7 +19,7 @@ IsLines job.Run s text = (plan : Plan) × (plan_of s ≡ Some plan) × (text ≡
 abbrev pub alarms_for : Job → Scenario → ℕ
 alarms_for job.Map s = 0
 alarms_for job.Unmap s = 0
-alarms_for job.Run s = alarms_in (plan_of s)
+alarms_for job.Run s = alarms_in_any (plan_of s)
 
 -- a run has a link
 abbrev pub IsReady : Job → Scenario → Type 0

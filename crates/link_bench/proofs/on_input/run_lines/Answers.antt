@@ -1,7 +1,7 @@
 use Rattle.std.proofs.Common.{ap, nat_lt}
 use Rattle.scenario.specs.declared.report_row.Totals.{Totals}
 use Rattle.link_bench.proofs.CauseLemmas.{plan-some}
-use Rattle.link_bench.proofs.top.run_lines.Goals as goal
+use Rattle.link_bench.proofs.on_input.run_lines.Goals as goal
 
 pub returns-clause-text : goal.returns-clause-text
 returns-clause-text c =
