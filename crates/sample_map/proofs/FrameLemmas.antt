@@ -129,6 +129,15 @@ octets_within g p e legal words octets some all r lt =
     let h = group_within r g.words (groups p) g.octets are.words_some (omega arith) in
     omega arith
 
+same_groups : (count w o words octets : ℕ) → count * w ≡ words → count * o ≡ octets → octets * w ≡ words * o
+same_groups count w o words octets some all = ap (λ n. n * w) (sym all) ∙ omega arith ∙ ap (λ n. n * o) some
+
+pub as_many_groups : (g : Grouping) (p : Params) → g ≡ grouping p → broken_law p ≡ None → (words octets : List ℕ)
+    → length words ≡ p.m * p.s → length octets ≡ p.l * p.f → length octets * g.words ≡ length words * g.octets
+as_many_groups g p e legal words octets some all =
+    let are = groups_of g p e legal in
+    same_groups (groups p) g.words g.octets (length words) (length octets) (are.all_words ∙ sym some) (are.all_octets ∙ sym all)
+
 pub is_frame_of : (g : Grouping) (p : Params) → g ≡ grouping p → broken_law p ≡ None → (words out : List ℕ) → length out ≡ p.l * p.f
     → ((k : ℕ) → k < length out → slice_index out k < 256)
     → ((k : ℕ) → k < length out → HasOctet g words k (slice_index out k)) → IsFrame p words out

@@ -5,3 +5,4 @@ pub mod GivesFrame
 pub mod GroupLemmas
 pub mod PlaceLemmas
 pub mod SizeLemmas
+pub mod WholeLemmas

@@ -5,16 +5,19 @@ ghost use Rattle.link_params.specs.Laws.{broken_law};
 ghost use Rattle.sample_map.specs.kept.Groups.{HasOctet, HasWord, group_bit, grouping};
 
 use crate::cursor::Cursor;
+use crate::whole::{read_pairs, read_singles, write_pairs, write_singles};
 use link_params::Shape;
 
-/// The sizes of a group: a lane, or the whole frame with HD. Words and octets of a group, bits of a word, and
-/// how many of these carry sample and control.
+/// The sizes of a group: a lane, or the whole frame with HD. Words and octets of a group, bits of
+/// a word, and how many of these carry sample and control. Where words of whole octets fill each
+/// group, `word_octets` are the octets of a word; otherwise it is 0.
 #[derive(Clone, Copy)]
 pub(crate) struct Grid {
     words: u32,
     octets: u32,
     width: u32,
     used: u32,
+    word_octets: u32,
     ghost words_some: { 0 < words },
     ghost words_few: { words ≤ 8192 },
     ghost octets_some: { 0 < octets },
@@ -23,6 +26,21 @@ pub(crate) struct Grid {
     ghost used_some: { 0 < used },
     ghost used_fit: { used ≤ width },
     ghost words_fit: { words * width ≤ 8 * octets },
+    ghost whole: { 0 < word_octets → (width ≡ 8 * word_octets) × (octets ≡ word_octets * words) },
+}
+
+/// The octets of a word where words of whole octets fill a group, otherwise 0.
+fn whole_octets(words: u32, octets: u32, width: u32) -> u32
+    requires words { words ≤ 8192 }
+    requires width { width ≤ 32 }
+    ensures { 0 < result → (width ≡ 8 * result) × (octets ≡ result * words) }
+{
+    let of_word = width / 8;
+    if width % 8 == 0 && octets == of_word * words {
+        of_word
+    } else {
+        0
+    }
 }
 
 impl Grid {
@@ -43,6 +61,7 @@ impl Grid {
                 octets: lanes * octets,
                 width,
                 used,
+                word_octets: whole_octets(words, lanes * octets, width),
             }
         } else {
             Grid {
@@ -50,6 +69,7 @@ impl Grid {
                 octets,
                 width,
                 used,
+                word_octets: whole_octets(words / lanes, octets, width),
             }
         }
     }
@@ -57,7 +77,8 @@ impl Grid {
     /// The bits of word i of a group, tail bits 0; 0 behind the group's words.
     fn word_at(&self, words: &[u32], group: usize, i: u32) -> u64
         requires group { (group + 1) * self.now.words ≤ length words.now }
-        requires below { (r : ℕ) → r < length words.now → slice_index words.now r < 2 ^ self.now.used }
+        requires below { (r : ℕ) → r < length words.now
+            → slice_index words.now r < 2 ^ self.now.used }
         ensures below { result < 2 ^ self.now.width }
         ensures bits { (b : ℕ) → b < self.now.width → bit_at result (self.now.width - 1 - b)
             ≡ group_bit (sizes self.now) words.now group (i * self.now.width + b) }
@@ -73,7 +94,8 @@ impl Grid {
     fn octet_at(&self, words: &[u32], cursor: Cursor) -> (u8, Cursor)
         requires holds { Stands (sizes self.now) words.now cursor }
         requires group { (cursor.group + 1) * self.now.words ≤ length words.now }
-        requires below { (r : ℕ) → r < length words.now → slice_index words.now r < 2 ^ self.now.used }
+        requires below { (r : ℕ) → r < length words.now
+            → slice_index words.now r < 2 ^ self.now.used }
         ensures below { result.0 < 256 }
         ensures octet { (i : ℕ) → i < 8 → bit_at result.0 (7 - i) ≡ group_bit (sizes self.now) words.now cursor.group (8 * cursor.place + i) }
         ensures holds { Stands (sizes self.now) words.now result.1 }
@@ -125,12 +147,16 @@ impl Grid {
         ((bits >> (have - due)) % (1 << self.used)) as u32
     }
 
-    /// Writes the octets of all groups.
-    pub(crate) fn write_octets(&self, words: &[u32], out: &mut [u8])
-        requires within { (k : ℕ) → k < length out.old → (k / self.now.octets + 1) * self.now.words ≤ length words.now }
-        requires below { (r : ℕ) → r < length words.now → slice_index words.now r < 2 ^ self.now.used }
+    /// Writes the octets of all groups, each from the words that it spans.
+    #[inline(never)]
+    fn gather_octets(&self, words: &[u32], out: &mut [u8])
+        requires within { (k : ℕ) → k < length out.old
+            → (k / self.now.octets + 1) * self.now.words ≤ length words.now }
+        requires below { (r : ℕ) → r < length words.now
+            → slice_index words.now r < 2 ^ self.now.used }
         ensures below { (k : ℕ) → k < length out.new → slice_index out.new k < 256 }
-        ensures octets { (k : ℕ) → k < length out.new → HasOctet (sizes self.now) words.now k (slice_index out.new k) }
+        ensures octets { (k : ℕ) → k < length out.new
+            → HasOctet (sizes self.now) words.now k (slice_index out.new k) }
     {
         let mut cursor = Cursor::start(0);
         for octet in out.iter_mut() {
@@ -140,14 +166,56 @@ impl Grid {
         }
     }
 
-    /// Writes the words of all groups.
-    pub(crate) fn write_words(&self, octets: &[u8], words: &mut [u32])
-        requires within { (r : ℕ) → r < length words.old → (r / self.now.words + 1) * self.now.octets ≤ length octets.now }
-        ensures below { (r : ℕ) → r < length words.new → slice_index words.new r < 2 ^ self.now.used }
-        ensures bits { (r : ℕ) → r < length words.new → HasWord (sizes self.now) octets.now r (slice_index words.new r) }
+    /// Writes the words of all groups, each from the octets that it spans.
+    #[inline(never)]
+    fn gather_words(&self, octets: &[u8], words: &mut [u32])
+        requires within { (r : ℕ) → r < length words.old
+            → (r / self.now.words + 1) * self.now.octets ≤ length octets.now }
+        ensures below { (r : ℕ) → r < length words.new
+            → slice_index words.new r < 2 ^ self.now.used }
+        ensures bits { (r : ℕ) → r < length words.new
+            → HasWord (sizes self.now) octets.now r (slice_index words.new r) }
     {
         for (r, word) in words.iter_mut().enumerate() {
             *word = self.word_from(octets, r);
+        }
+    }
+
+    /// Writes the octets of all groups.
+    #[inline(always)]
+    pub(crate) fn write_octets(&self, words: &[u32], out: &mut [u8])
+        requires groups { length out.old * self.now.words ≡ length words.now * self.now.octets }
+        requires within { (k : ℕ) → k < length out.old
+            → (k / self.now.octets + 1) * self.now.words ≤ length words.now }
+        requires below { (r : ℕ) → r < length words.now
+            → slice_index words.now r < 2 ^ self.now.used }
+        ensures below { (k : ℕ) → k < length out.new → slice_index out.new k < 256 }
+        ensures octets { (k : ℕ) → k < length out.new
+            → HasOctet (sizes self.now) words.now k (slice_index out.new k) }
+    {
+        let tail = self.width - self.used;
+        match self.word_octets {
+            1 => write_singles(words, tail, out),
+            2 => write_pairs(words, tail, out),
+            _ => self.gather_octets(words, out),
+        }
+    }
+
+    /// Writes the words of all groups.
+    pub(crate) fn write_words(&self, octets: &[u8], words: &mut [u32])
+        requires groups { length octets.now * self.now.words ≡ length words.old * self.now.octets }
+        requires within { (r : ℕ) → r < length words.old
+            → (r / self.now.words + 1) * self.now.octets ≤ length octets.now }
+        ensures below { (r : ℕ) → r < length words.new
+            → slice_index words.new r < 2 ^ self.now.used }
+        ensures bits { (r : ℕ) → r < length words.new
+            → HasWord (sizes self.now) octets.now r (slice_index words.new r) }
+    {
+        let tail = self.width - self.used;
+        match self.word_octets {
+            1 => read_singles(octets, tail, words),
+            2 => read_pairs(octets, tail, words),
+            _ => self.gather_words(octets, words),
         }
     }
 }

@@ -43,6 +43,7 @@ impl Layout {
     ///
     /// `words` are the M·S words of the frame, converter 0 sample 0 first, then its next sample; a word is
     /// `sample·2^CS + control`. `out` has L·F octets; tail bits are written as 0.
+    #[inline(always)]
     pub fn map(&self, words: &[u32], out: &mut [u8])
         requires words { length words.now ≡ self.now.m * self.now.s }
         requires below { (r : ℕ) → r < self.now.m * self.now.s → slice_index words.now r < 2 ^ (self.now.n + self.now.cs) }

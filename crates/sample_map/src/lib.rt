@@ -13,6 +13,7 @@ mod laws;
 mod layout;
 #[cfg(test)]
 mod tests;
+mod whole;
 
 pub use laws::layout_laws;
 pub use layout::Layout;

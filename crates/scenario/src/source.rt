@@ -9,30 +9,40 @@ use crate::scenario_type::Scenario;
 /// Writes the M·S words of source frame `n`, counted from 0: those of the frames of the input,
 /// again and again, or of the ramp. `words` has M·S places, and the input is a ramp or has a frame
 /// at least, as in every scenario of a run.
+#[inline(always)]
 pub fn source_frame(s: &Scenario, n: u64, words: &mut [u32])
     requires size { length words.old ≡ s.now.shape.m * s.now.shape.s }
     requires some { IsTrue (has_words s.now.input) }
     ensures source { words.new ≡ frame_of_source s.now.shape (source_in s.now.input) n }
     ensures plan { (plan : Plan) → plan_of s.now ≡ Some plan → words.new ≡ source_frame plan n }
 {
-    let size = s.shape.frame_words();
     match &s.input {
         Input::Ramp { start, step } => {
-            let before = n.wrapping_mul(size as u64);
+            let before = n.wrapping_mul(words.len() as u64);
             let first = (*start as u64).wrapping_add((*step as u64).wrapping_mul(before));
             ramp_words(first, *step, s.shape.word_bits(), words);
         }
-        Input::Frames(frames) => repeated_frame(frames, n, words),
+        Input::Frames(frames) => {
+            // for what it ensures: a frame has a word at least
+            let _size = s.shape.frame_words();
+            repeated_frame(frames, n, words);
+        }
     }
 }
 
 // Words from `first` on by `step`, modulo 2^bits.
+#[inline(always)]
 pub(crate) fn ramp_words(first: u64, step: u32, bits: u32, words: &mut [u32])
     requires { bits ≤ 32 }
     ensures { words.new ≡ map (λ k. (first + step * k) % 2 ^ bits)
         (numbers_from 0 (length words.old)) }
 {
     let mask = (1u64 << bits) - 1;
+    // a word alone needs no loop
+    if words.len() == 1 {
+        words[0] = (first & mask) as u32;
+        return;
+    }
     let mut value = first;
     for word in words.iter_mut() {
         *word = (value & mask) as u32;

@@ -1,6 +1,7 @@
 -- Words in octets, group by group (JESD204B.01 clause 5.1, transport layer): a group is a lane, or
 -- the whole frame with HD.
--- Code: so, with the bits in hand as one number.
+-- Code: so, with the bits in hand as one number; words of whole octets that fill each group, one after
+-- another.
 use Rattle.std.specs.Prelude.{◌≡◌, ℕ, ◌+◌, ◌-◌, ◌*◌, ◌/◌, ◌%◌, ◌<◌, nat_lt, if◌then◌else◌, List, slice_index}
 use Rattle.std.specs.Int.{bit_at}
 use Rattle.link_params.specs.declared.fields.Params.{Params}

@@ -8,7 +8,7 @@ returns-in-Ramp c =
     let p = c.args.s.now.shape in
     let start : ℕ = c.in-Ramp.start in
     let step : ℕ = c.in-Ramp.step in
-    let size : ℕ = c.frame_words-size.result in
+    let size : ℕ = length c.args.words.now in
     let bits : ℕ = c.word_bits.result in
     let n : ℕ = c.args.n in
     let written : c.ramp_words.new.words
@@ -19,10 +19,8 @@ returns-in-Ramp c =
     ∙ map-same (numbers_from 0 (length c.args.words.now)) _
     (λ k. (start + step * (n * size + k)) % 2 ^ bits)
     (λ k. ramp-word start step (n * size) k bits c.word_bits.ensures.bound)
-    ∙ ap (λ m. map (λ k. (start + step * (n * size + k)) % 2 ^ bits) (numbers_from 0 m))
-    c.requires.size
-    ∙ ap₂ (λ m b. map (λ k. (start + step * (n * m + k)) % 2 ^ b) (numbers_from 0 (p.m * p.s)))
-    c.frame_words-size.ensures.value c.word_bits.ensures.value
+    ∙ ap₂ (λ m b. map (λ k. (start + step * (n * m + k)) % 2 ^ b) (numbers_from 0 m))
+    c.requires.size c.word_bits.ensures.value
     ∙ ap (λ i. frame_of_source p (source_in i) n) (sym c.in-Ramp.is) in
     record { source = source; plan = as-planned c.args.s.now n c.ramp_words.new.words source }
 

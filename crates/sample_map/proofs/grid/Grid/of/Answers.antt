@@ -24,6 +24,7 @@ invariant_of-result c =
             used_some = are.used_some;
             used_fit = are.used_fit;
             words_fit = are.words_fit;
+            whole = rw (c.lanes-lanes.ensures.value, c.frame_words-words.ensures.value, c.frame_octets-octets.ensures.value, np) at w.whole_octets.ensures;
           })
       | else-params w ↦
           let f : c.args.shape.now.hd ≡ false = sym hd ∙ w.if-params.false in
@@ -37,5 +38,6 @@ invariant_of-result c =
             used_some = are.used_some;
             used_fit = are.used_fit;
             words_fit = are.words_fit;
+            whole = rw (c.lanes-lanes.ensures.value, c.frame_words-words.ensures.value, c.frame_octets-octets.ensures.value, np) at w.whole_octets-else-params.ensures;
           })
     ]

@@ -1,28 +1,27 @@
-use Rattle.std.proofs.Common.{◌≡◌, ℕ, ◌+◌, ◌/◌, ◌∙◌, arith, ap, sym}
-use Rattle.std.proofs.lemmas.Nat.{div-mul-add}
+use Rattle.std.proofs.Common.{◌≡◌, ◌*◌, ◌-◌, ◌^◌, length, arith}
+use Rattle.std.specs.Prelude.{slice_index}
 use Rattle.sample_map.specs.kept.Grids.{sizes}
-use Rattle.sample_map.proofs.GroupLemmas.{below_more, has_octet, octet_more}
+use Rattle.sample_map.proofs.WholeLemmas.{all_octets, all_pairs, is_whole, single_octet}
 use Rattle.sample_map.proofs.grid.Grid.write_octets.Goals as goal
 
-pub octet_at-value-requires-clause-group : goal.octet_at-value-requires-clause-group
-octet_at-value-requires-clause-group c =
-    let k : ℕ = c.loop-octet.octet-index in
-    let octets : ℕ = c.args.self.now.octets in
-    let group : ℕ = c.loop-octet.cursor.group in
-    let d : k / octets ≡ group
-    = ap (λ x. x / octets) (sym c.loop-octet.invariant.place) ∙ div-mul-add group octets c.loop-octet.cursor.place c.loop-octet.invariant.holds.in_group in
-    let h = c.requires.within k (omega arith) in
-    rw d at h
+pub write_pairs-requires-clause-octets : goal.write_pairs-requires-clause-octets
+write_pairs-requires-clause-octets c =
+    all_octets (sizes c.args.self.now) 2 (length c.args.words.now) (length c.args.out.now)
+    (is_whole c.args.self.now 2 (omega arith) c.in-2.is) c.requires.groups
 
-pub loop-octet-preserved : goal.loop-octet-preserved
-loop-octet-preserved c =
-    let k : ℕ = c.loop-octet.octet-index in
-    let cursor = c.loop-octet.cursor in
-    let place = c.loop-octet.invariant.place in
-    let here = has_octet (sizes c.args.self.now) c.args.words.now k cursor.group cursor.place c.octet_at-value.result.0 place c.loop-octet.invariant.holds.in_group c.octet_at-value.ensures.octet in
-    record {
-      place = c.octet_at-value.ensures.next ∙ ap (λ x. x + 1) place;
-      holds = c.octet_at-value.ensures.holds;
-      below = below_more c.loop-octet.out k c.octet_at-value.result.0 (omega arith) c.octet_at-value.ensures.below c.loop-octet.invariant.below;
-      written = octet_more (sizes c.args.self.now) c.args.words.now c.loop-octet.out k c.octet_at-value.result.0 (omega arith) here c.loop-octet.invariant.written;
-    }
+pub returns-in-1-clause-octets : goal.returns-in-1-clause-octets
+returns-in-1-clause-octets c = λ k lt.
+    let is = is_whole c.args.self.now 1 (omega arith) c.in-1.is in
+    let whole : length c.args.out.now ≡ 1 * length c.args.words.now
+    = all_octets (sizes c.args.self.now) 1 (length c.args.words.now) (length c.args.out.now) is c.requires.groups in
+    let written : slice_index c.write_singles.new.out k ≡ slice_index c.args.words.now k * 2 ^ (c.args.self.now.width - c.args.self.now.used)
+    = c.write_singles.ensures k (omega arith) in
+    rw written (single_octet (sizes c.args.self.now) c.args.words.now k is)
+
+pub returns-in-2-clause-octets : goal.returns-in-2-clause-octets
+returns-in-2-clause-octets c =
+    let is = is_whole c.args.self.now 2 (omega arith) c.in-2.is in
+    let whole : length c.args.out.now ≡ 2 * length c.args.words.now
+    = all_octets (sizes c.args.self.now) 2 (length c.args.words.now) (length c.args.out.now) is c.requires.groups in
+    all_pairs (sizes c.args.self.now) c.args.words.now c.write_pairs.new.out is (omega arith)
+    c.write_pairs.ensures.first c.write_pairs.ensures.second

@@ -2,7 +2,7 @@ use Rattle.std.proofs.Common.{◌≡◌, ◌∙◌, ap, arith, None}
 use Rattle.link_params.specs.Laws.{broken_law}
 use Rattle.sample_map.specs.kept.Groups.{grouping}
 use Rattle.sample_map.specs.kept.Grids.{sizes}
-use Rattle.sample_map.proofs.FrameLemmas.{is_frame_of, words_within}
+use Rattle.sample_map.proofs.FrameLemmas.{as_many_groups, is_frame_of, words_within}
 use Rattle.sample_map.proofs.layout.Layout.map.Goals as goal
 
 pub write_octets-requires-clause-within : goal.write_octets-requires-clause-within
@@ -10,6 +10,12 @@ write_octets-requires-clause-within c =
     let e : sizes c.self.inside.grid ≡ grouping c.args.self.now = c.self.invariant.0 ∙ ap grouping c.self.view_is in
     let legal : broken_law c.args.self.now ≡ None = rw c.self.view_is at c.self.invariant.1 in
     words_within (sizes c.self.inside.grid) c.args.self.now e legal c.args.words.now c.args.out.now c.requires.words c.requires.octets
+
+pub write_octets-requires-clause-groups : goal.write_octets-requires-clause-groups
+write_octets-requires-clause-groups c =
+    let e : sizes c.self.inside.grid ≡ grouping c.args.self.now = c.self.invariant.0 ∙ ap grouping c.self.view_is in
+    let legal : broken_law c.args.self.now ≡ None = rw c.self.view_is at c.self.invariant.1 in
+    as_many_groups (sizes c.self.inside.grid) c.args.self.now e legal c.args.words.now c.args.out.now c.requires.words c.requires.octets
 
 pub returns : goal.returns
 returns c =

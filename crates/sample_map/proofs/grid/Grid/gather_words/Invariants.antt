@@ -1,7 +1,7 @@
 use Rattle.std.proofs.Common.{ℕ, ◌<◌, ◌^◌, get_or}
 use Rattle.sample_map.specs.kept.Grids.{sizes}
 use Rattle.sample_map.specs.kept.Groups.{HasWord}
-use Rattle.sample_map.proofs.grid.Grid.write_words.Given as goal
+use Rattle.sample_map.proofs.grid.Grid.gather_words.Given as goal
 
 abbrev pub invariant-loop-r : goal.invariant-loop-r
 invariant-loop-r l = record {

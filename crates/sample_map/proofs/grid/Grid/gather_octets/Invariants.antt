@@ -2,7 +2,7 @@ use Rattle.std.proofs.Common.{◌≡◌, ℕ, ◌+◌, ◌*◌, ◌<◌, get_or}
 use Rattle.sample_map.specs.kept.Cursors.{Stands}
 use Rattle.sample_map.specs.kept.Grids.{sizes}
 use Rattle.sample_map.specs.kept.Groups.{HasOctet}
-use Rattle.sample_map.proofs.grid.Grid.write_octets.Given as goal
+use Rattle.sample_map.proofs.grid.Grid.gather_octets.Given as goal
 
 abbrev pub invariant-loop-octet : goal.invariant-loop-octet
 invariant-loop-octet l = record {
