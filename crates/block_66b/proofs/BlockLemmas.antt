@@ -1,5 +1,5 @@
 -- Blocks and the bits of two ticks.
-use Rattle.std.proofs.Common.{◌≡◌, ◌≢◌, ℕ, zero, suc, ◌+◌, ◌-◌, ◌*◌, ◌/◌, ◌%◌, ◌^◌, ◌<◌, ◌≤◌, ◌==◌, Bool, List, ◌∷◌, ◌++◌, length, take, drop, refl, sym, ap, ap₂, ◌∙◌, inl, inr, append_assoc, length-append, arith, bit_and}
+use Rattle.std.proofs.Common.{◌≡◌, ℕ, zero, suc, ◌+◌, ◌-◌, ◌*◌, ◌/◌, ◌%◌, ◌^◌, ◌<◌, ◌≤◌, ◌==◌, Bool, List, ◌∷◌, ◌++◌, length, take, drop, refl, sym, ap, ap₂, ◌∙◌, inl, inr, append_assoc, length-append, arith, bit_and, get_or}
 use Rattle.std.specs.Prelude.{bit_or}
 use Rattle.std.specs.Int.{bit_at}
 use Rattle.std.proofs.Math.Nat.{mod-eq_of_lt, mul-le-mul_right, mul-mod_left}
@@ -11,6 +11,7 @@ use Rattle.jesd_base.specs.Bits.{bits, value, zeros}
 use Rattle.jesd_base.specs.laws.BitLaws.{BitsLength, ValueOfBits, ValueOfAppend}
 use Rattle.block_66b.specs.Blocks.{header, window}
 use Rattle.block_66b.specs.declared.sync_bit.SyncBit.TheVariants.{Zero, One, Bad}
+use Rattle.block_66b.specs.declared.block.TheConstants.{HEADERS}
 
 bits-parts : (m n v : ℕ) → bits (m + n) v ≡ bits m (v / 2 ^ n) ++ bits n v
 unfolding bits
@@ -27,11 +28,11 @@ header-top : (b : ℕ) → header (bits 66 b) ≡ header ((b / 2 ^ 64 / 2 % 2 ==
 unfolding bits
 header-top b = ap (λ h. header ((h % 2 == 1) ∷ (b / 2 ^ 64 % 2 == 1) ∷ bits 64 b)) (sym (shr-shr b 64 1))
 
-pub header-one : (b : ℕ) → b / 2 ^ 64 ≡ 1 → header (bits 66 b) ≡ One
+header-one : (b : ℕ) → b / 2 ^ 64 ≡ 1 → header (bits 66 b) ≡ One
 unfolding header
 header-one b e = header-top b ∙ ap (λ h. header ((h / 2 % 2 == 1) ∷ (h % 2 == 1) ∷ bits 64 b)) e
 
-pub header-zero : (b : ℕ) → b / 2 ^ 64 ≡ 2 → header (bits 66 b) ≡ Zero
+header-zero : (b : ℕ) → b / 2 ^ 64 ≡ 2 → header (bits 66 b) ≡ Zero
 unfolding header
 header-zero b e = header-top b ∙ ap (λ h. header ((h / 2 % 2 == 1) ∷ (h % 2 == 1) ∷ bits 64 b)) e
 
@@ -43,10 +44,20 @@ header-none : (b : ℕ) → b / 2 ^ 64 ≡ 0 → header (bits 66 b) ≡ Bad
 unfolding header
 header-none b e = header-top b ∙ ap (λ h. header ((h / 2 % 2 == 1) ∷ (h % 2 == 1) ∷ bits 64 b)) e
 
-pub header-bad : (b : ℕ) → b < 2 ^ 66 → b / 2 ^ 64 ≢ 1 → b / 2 ^ 64 ≢ 2 → header (bits 66 b) ≡ Bad
-header-bad b small none two = elim (cases_lt (b / 2 ^ 64) 1) [
-  | inl low ↦ header-none b (omega arith)
-  | inr high ↦ header-three b (omega arith)
+pub header-of : (b : ℕ) → b < 2 ^ 66 → get_or HEADERS (b / 2 ^ 64) Zero ≡ header (bits 66 b)
+header-of b small = elim (cases_lt (b / 2 ^ 64) 2) [
+  | inl low ↦ elim (cases_lt (b / 2 ^ 64) 1) [
+    | inl none ↦ let e : b / 2 ^ 64 ≡ 0 = omega arith in
+        ap (λ k. get_or HEADERS k Zero) e ∙ sym (header-none b e)
+    | inr one ↦ let e : b / 2 ^ 64 ≡ 1 = omega arith in
+        ap (λ k. get_or HEADERS k Zero) e ∙ sym (header-one b e)
+  ]
+  | inr high ↦ elim (cases_lt (b / 2 ^ 64) 3) [
+    | inl two ↦ let e : b / 2 ^ 64 ≡ 2 = omega arith in
+        ap (λ k. get_or HEADERS k Zero) e ∙ sym (header-zero b e)
+    | inr three ↦ let e : b / 2 ^ 64 ≡ 3 = omega arith in
+        ap (λ k. get_or HEADERS k Zero) e ∙ sym (header-three b e)
+  ]
 ]
 
 -- ---- the block across two ticks

@@ -59,5 +59,8 @@ fn across(last: u128, tick: u128, rest: u8) -> u128
     ensures block { result ≡ last % 2 ^ rest * 2 ^ (66 - rest) + tick / 2 ^ rest }
     ensures below { result < 2 ^ 66 }
 {
+    if rest == 0 {
+        return tick;
+    }
     ((last << (66 - rest)) & BLOCK) | (tick >> rest)
 }

@@ -6,6 +6,9 @@ ghost use Rattle.block_66b.specs.Blocks.{header, packed};
 use crate::sync_bit::SyncBit;
 use jesd_base::bits_and_numbers;
 
+// What the headers 00, 01, 10 and 11 carry.
+const HEADERS: [SyncBit; 4] = [SyncBit::Bad, SyncBit::One, SyncBit::Zero, SyncBit::Bad];
+
 /// The block with this sync bit and this payload.
 pub fn pack(sync: bool, payload: u64) -> u128
     ensures block { result ≡ packed sync payload }
@@ -32,9 +35,5 @@ fn sync_bit(block: u128) -> SyncBit
     requires { block < 2 ^ 66 }
     ensures { result ≡ header (bits 66 block) }
 {
-    match block >> 64 {
-        0b01 => SyncBit::One,
-        0b10 => SyncBit::Zero,
-        _ => SyncBit::Bad,
-    }
+    HEADERS[(block >> 64) as usize]
 }

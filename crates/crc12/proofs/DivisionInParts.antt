@@ -1,11 +1,9 @@
--- The check after one more byte.
-use Rattle.std.proofs.Common.{◌≡◌, ℕ, zero, suc, ◌+◌, ◌-◌, ◌*◌, ◌/◌, ◌%◌, ◌^◌, ◌<◌, Bool, true, false, List, [], ◌∷◌, ◌++◌, length, take, drop, refl, sym, ap, ap₂, ◌∙◌, append_assoc, length-append, length-take, length-drop, arith, lit<, bit_xor}
-use Rattle.std.proofs.lemmas.List.{take-append-drop}
+-- The check after one more payload, and that of one more byte.
+use Rattle.std.proofs.Common.{◌≡◌, ℕ, zero, suc, ◌+◌, ◌*◌, ◌/◌, ◌^◌, ◌<◌, Bool, true, false, List, [], ◌∷◌, ◌++◌, length, refl, sym, ap, ap₂, ◌∙◌, append_assoc, length-append, arith, lit<, bit_xor}
 use Rattle.std.proofs.lemmas.Nat.{xor_comm}
-use Rattle.std.specs.Int.Bits.{xor_assoc}
 use Rattle.jesd_base.specs.Bits.{add, bits, value, zeros}
-use Rattle.jesd_base.specs.laws.BitLaws.{BitsLength, ValueOfBits, BitsOfValue, ValueBelow, ValueOfAppend}
-use Rattle.jesd_base.specs.Division.{add_bits, divide, rem}
+use Rattle.jesd_base.specs.laws.BitLaws.{BitsLength, ValueOfBits, BitsOfValue, ValueBelow, ValueOfAppend, BitsOfParts}
+use Rattle.jesd_base.specs.Division.{add_bits, rem}
 use Rattle.jesd_base.specs.laws.DivisionLaws.{SumIsXor, RemainderIsLinear, RemainderLength, ZerosInFront, RemainderGoesOn}
 use Rattle.crc12.specs.Crc.{divisor, crc}
 
@@ -59,14 +57,6 @@ parts-sum xs ys m n lx ly =
     let same : length xs ≡ length (zeros m) = lx ∙ sym (length-zeros m) in
     sym (add_bits-parts xs (zeros m) (zeros n) ys same ∙ ap₂ {C = List Bool} (λ p q. p ++ q) (add_bits-zeros m xs lx) (zeros-add_bits n ys ly))
 
--- twelve bits are their own remainder
-rem-twelve : (xs : List Bool) → length xs ≡ 12 → rem divisor xs ≡ xs
-unfolding rem divide
-rem-twelve xs e =
-    let d = length-divisor in
-    let none : length xs - length divisor ≡ 0 = omega arith in
-    ap (λ n. divide n divisor xs) none
-
 module _ (linear : RemainderIsLinear) (remainder_length : RemainderLength) (front : ZerosInFront) (goes_on : RemainderGoesOn) where
   length-crc : (xs : List Bool) → length (crc xs) ≡ 12
   length-crc xs =
@@ -98,40 +88,47 @@ module _ (linear : RemainderIsLinear) (remainder_length : RemainderLength) (fron
       add_bits-parts xs ys (zeros 12) (zeros 12) e ∙ ap (λ r. add_bits xs ys ++ r) (add_bits-zeros 12 (zeros 12) z) in
       ap (rem divisor) (sym both) ∙ linear divisor (xs ++ zeros 12) (ys ++ zeros 12) (omega arith) (omega arith)
 
-  -- twelve bits in a high byte and a low half, with eight zeros behind them
-  rem-twelve_and_eight : (high low : List Bool) → length high ≡ 8 → length low ≡ 4
-      → rem divisor ((high ++ low) ++ zeros 8) ≡ add_bits (crc high) (low ++ zeros 8)
-  rem-twelve_and_eight high low lh ll =
+  -- the check of two parts is the sum of that of the first with zeros behind it and that of the second
+  crc-parts : (xs ys : List Bool) (n : ℕ) → length ys ≡ n → 0 < length xs → crc (xs ++ ys) ≡ add_bits (crc (xs ++ zeros n)) (crc ys)
+  crc-parts xs ys n ly some =
       let d = length-divisor in
-      let z = length-zeros 8 in
-      let zz = length-zeros 12 in
-      let p = length-append low (zeros 8) in
-      let own : length (low ++ zeros 8) ≡ 12 = omega arith in
-      let a = length-append high (zeros 12) in
-      let b = length-append (zeros 8) (low ++ zeros 8) in
-      ap (rem divisor) (append_assoc high low (zeros 8) ∙ parts-sum high (low ++ zeros 8) 8 12 lh own)
-      ∙ linear divisor (high ++ zeros 12) (zeros 8 ++ (low ++ zeros 8)) (omega arith) (omega arith)
-      ∙ ap (add_bits (crc high)) (front divisor (low ++ zeros 8) 8 (omega arith) ∙ rem-twelve (low ++ zeros 8) own)
+      let m : ℕ = length xs in
+      let z = length-zeros 12 in
+      let t = length-append ys (zeros 12) in
+      let long : length (ys ++ zeros 12) ≡ n + 12 = omega arith in
+      let p = length-append xs (zeros (n + 12)) in
+      let q = length-append (zeros m) (ys ++ zeros 12) in
+      let zm = length-zeros m in
+      let zn = length-zeros (n + 12) in
+      ap (rem divisor) (append_assoc xs ys (zeros 12) ∙ parts-sum xs (ys ++ zeros 12) m (n + 12) refl long)
+      ∙ linear divisor (xs ++ zeros (n + 12)) (zeros m ++ (ys ++ zeros 12)) (omega arith) (omega arith)
+      ∙ ap₂ {C = List Bool} add_bits
+      (ap (rem divisor) (ap (λ r. xs ++ r) (sym (zeros-append n 12)) ∙ sym (append_assoc xs (zeros n) (zeros 12))))
+      (front divisor (ys ++ zeros 12) m (omega arith))
 
-  -- the check of bits and a byte more, from the check of the bits in a high byte and a low half
-  crc-byte : (taken byte high low : List Bool) → length byte ≡ 8 → length high ≡ 8 → length low ≡ 4 → crc taken ≡ high ++ low
-      → crc (taken ++ byte) ≡ add_bits (add_bits (crc high) (low ++ zeros 8)) (crc byte)
-  crc-byte taken byte high low lb lh ll is =
+  -- the check of bits and a payload more is that of the payload with the check of the bits added to its first ones
+  crc-payload : (taken block : List Bool) → length block ≡ 64 → crc (taken ++ block) ≡ crc (add_bits (crc taken ++ zeros 52) block)
+  crc-payload taken block lb =
       let d = length-divisor in
       let z = length-zeros 12 in
-      let p = length-append byte (zeros 12) in
+      let y = length-zeros 52 in
+      let c = length-crc taken in
       let t = length-append taken (zeros 12) in
-      let more : taken ++ zeros 20 ≡ (taken ++ zeros 12) ++ zeros 8 =
-      ap (λ r. taken ++ r) (sym (zeros-append 12 8)) ∙ sym (append_assoc taken (zeros 12) (zeros 8)) in
-      ap (rem divisor) (append_assoc taken byte (zeros 12))
-      ∙ rem-parts taken (byte ++ zeros 12) 20 (omega arith) (lit< tt)
-      ∙ ap (λ r. add_bits r (crc byte)) (
+      let p = length-append block (zeros 12) in
+      let whole = length-append (crc taken) (zeros 52) in
+      let more : taken ++ zeros 76 ≡ (taken ++ zeros 12) ++ zeros 64 =
+      ap (λ r. taken ++ r) (sym (zeros-append 12 64)) ∙ sym (append_assoc taken (zeros 12) (zeros 64)) in
+      let behind : crc taken ++ zeros 64 ≡ (crc taken ++ zeros 52) ++ zeros 12 =
+      ap (λ r. crc taken ++ r) (sym (zeros-append 52 12)) ∙ sym (append_assoc (crc taken) (zeros 52) (zeros 12)) in
+      ap (rem divisor) (append_assoc taken block (zeros 12))
+      ∙ rem-parts taken (block ++ zeros 12) 76 (omega arith) (lit< tt)
+      ∙ ap (λ r. add_bits r (crc block)) (
       ap (rem divisor) more
-      ∙ goes_on divisor (taken ++ zeros 12) (zeros 8) (omega arith)
-      ∙ ap (λ r. rem divisor (r ++ zeros 8)) is
-      ∙ rem-twelve_and_eight high low lh ll)
+      ∙ goes_on divisor (taken ++ zeros 12) (zeros 64) (omega arith)
+      ∙ ap (rem divisor) behind)
+      ∙ sym (crc-sum (crc taken ++ zeros 52) block (omega arith) (omega arith))
 
-  module _ (bits_length : BitsLength) (of_bits : ValueOfBits) (of_value : BitsOfValue) (value_below : ValueBelow) (value_append : ValueOfAppend) (xor : SumIsXor) where
+  module _ (bits_length : BitsLength) (of_bits : ValueOfBits) (of_value : BitsOfValue) (value_below : ValueBelow) (value_append : ValueOfAppend) (xor : SumIsXor) (parts : BitsOfParts) where
     value-zeros : (n : ℕ) → value (zeros n) ≡ 0
     unfolding zeros
     value-zeros zero = refl
@@ -141,44 +138,34 @@ module _ (linear : RemainderIsLinear) (remainder_length : RemainderLength) (fron
     value-crc-lt xs = rw (length-crc xs) at (value_below (crc xs))
 
     -- the same as numbers
-    pub value-crc-byte : (taken : List Bool) (r byte : ℕ) → byte < 2 ^ 8 → r ≡ value (crc taken)
-        → value (crc (taken ++ bits 8 byte)) ≡ bit_xor (r % 16 * 256) (value (crc (bits 8 (bit_xor (r / 16) byte))))
-    value-crc-byte taken r byte small is =
-        let whole : List Bool = crc taken in
-        let high : List Bool = take 8 whole in
-        let low : List Bool = drop 8 whole in
-        let b : List Bool = bits 8 byte in
+    pub value-crc-payload : (taken : List Bool) (r payload : ℕ) → payload < 2 ^ 64 → r ≡ value (crc taken)
+        → value (crc (taken ++ bits 64 payload)) ≡ value (crc (bits 64 (bit_xor payload (r * 2 ^ 52))))
+    value-crc-payload taken r payload small is =
+        let front : List Bool = crc taken ++ zeros 52 in
+        let b : List Bool = bits 64 payload in
         let l = length-crc taken in
-        let lh : length high ≡ 8 = length-take 8 whole ∙ omega arith in
-        let ll : length low ≡ 4 = length-drop 8 whole ∙ omega arith in
-        let lb : length b ≡ 8 = bits_length 8 byte in
-        let split : whole ≡ high ++ low = sym (take-append-drop 8 whole) in
-        let v : value whole ≡ value high * 2 ^ length low + value low = ap value split ∙ value_append high low in
-        let v16 : value whole ≡ value high * 16 + value low = v ∙ ap (λ n. value high * 2 ^ n + value low) ll in
-        let lt : value low < 16 = rw ll at (value_below low) in
-        let is_high : value high ≡ r / 16 = omega arith in
-        let is_low : value low ≡ r % 16 = omega arith in
-        let vb : value b ≡ byte = of_bits 8 byte ∙ omega arith in
-        let sum : List Bool = add_bits high b in
-        let ls : length sum ≡ 8 = length-add_bits high b (lh ∙ sym lb) ∙ lb in
-        let vs : value sum ≡ bit_xor (r / 16) byte = xor high b (lh ∙ sym lb) ∙ ap₂ bit_xor is_high vb in
-        let again : sum ≡ bits 8 (bit_xor (r / 16) byte) = sym (of_value sum) ∙ ap₂ bits ls vs in
-        let z = value-zeros 8 in
-        let zl = length-zeros 8 in
-        let up : value (low ++ zeros 8) ≡ r % 16 * 256 =
-        value_append low (zeros 8) ∙ ap₂ (λ n k. value low * 2 ^ n + k) zl z ∙ omega arith in
-        let p = length-append low (zeros 8) in
-        let ch = length-crc high in
-        let cb = length-crc b in
-        let first : length (crc high) ≡ length (low ++ zeros 8) = omega arith in
-        let both : length (add_bits (crc high) (low ++ zeros 8)) ≡ length (crc b) = length-add_bits (crc high) (low ++ zeros 8) first ∙ omega arith in
-        let table : value (crc sum) ≡ bit_xor (value (crc high)) (value (crc b)) =
-        ap value (crc-sum high b (lh ∙ sym lb) (omega arith)) ∙ xor (crc high) (crc b) (ch ∙ sym cb) in
-        let c : ℕ = value (crc high) in
-        let e : ℕ = value (crc b) in
-        let u : ℕ = r % 16 * 256 in
-        ap value (crc-byte taken b high low lb lh ll split)
-        ∙ xor (add_bits (crc high) (low ++ zeros 8)) (crc b) both
-        ∙ ap (λ n. bit_xor n e) (xor (crc high) (low ++ zeros 8) first ∙ ap (bit_xor c) up ∙ xor_comm c u)
-        ∙ xor_assoc u c e
-        ∙ ap (bit_xor u) (sym table ∙ ap (λ s. value (crc s)) again)
+        let z = length-zeros 52 in
+        let a = length-append (crc taken) (zeros 52) in
+        let lf : length front ≡ 64 = omega arith in
+        let lb : length b ≡ 64 = bits_length 64 payload in
+        let vf : value front ≡ r * 2 ^ 52 = value_append (crc taken) (zeros 52)
+        ∙ ap₂ (λ n k. value (crc taken) * 2 ^ n + k) z (value-zeros 52) ∙ omega arith in
+        let vb : value b ≡ payload = of_bits 64 payload ∙ omega arith in
+        let sum : List Bool = add_bits front b in
+        let ls : length sum ≡ 64 = length-add_bits front b (lf ∙ sym lb) ∙ lb in
+        let vs : value sum ≡ bit_xor payload (r * 2 ^ 52) =
+        xor front b (lf ∙ sym lb) ∙ ap₂ bit_xor vf vb ∙ xor_comm (r * 2 ^ 52) payload in
+        ap value (crc-payload taken b lb ∙ ap crc (sym (of_value sum) ∙ ap₂ bits ls vs))
+
+    pub value-crc-more : (x n : ℕ)
+        → value (crc (bits (8 + n) x)) ≡ bit_xor (value (crc (bits n x))) (value (crc (bits 8 (x / 2 ^ n) ++ zeros n)))
+    value-crc-more x n =
+        let high : List Bool = bits 8 (x / 2 ^ n) in
+        let low : List Bool = bits n x in
+        let lh : length high ≡ 8 = bits_length 8 (x / 2 ^ n) in
+        let a = length-crc (high ++ zeros n) in
+        let b = length-crc low in
+        ap (λ r. value (crc r)) (parts 8 n x)
+        ∙ ap value (crc-parts high low n (bits_length n x) (omega arith))
+        ∙ xor (crc (high ++ zeros n)) (crc low) (a ∙ sym b)
+        ∙ xor_comm (value (crc (high ++ zeros n))) (value (crc low))

@@ -1,5 +1,5 @@
--- The table has the check of each byte.
-use Rattle.std.proofs.Common.{◌≡◌, ℕ, zero, suc, ◌<◌, ◌==◌, Bool, true, ◌&&◌, slice_index, refl, inl, inr, arith}
+-- The table has the check of each byte with so many bytes of zeros behind it.
+use Rattle.std.proofs.Common.{◌≡◌, ◌∙◌, ℕ, zero, suc, ◌+◌, ◌*◌, ◌/◌, ◌%◌, ◌<◌, ◌==◌, ◌++◌, ap₂, Bool, true, ◌&&◌, slice_index, refl, inl, inr, arith}
 use Rattle.std.proofs.lemmas.Bool.{and_parts, cases_lt, eqb-true}
 use Rattle.jesd_base.specs.Bits.{bits, value, zeros}
 use Rattle.jesd_base.specs.Division.{divide, rem}
@@ -22,12 +22,18 @@ all_below-at p (suc n) k h lt =
     ]
 
 is_entry : ℕ → Bool
-is_entry i = slice_index TABLE i == value (crc (bits 8 i))
+is_entry i = slice_index TABLE i == value (crc (bits 8 (i % 256) ++ zeros (8 * (i / 256))))
 
-each-is_entry : all_below is_entry 256 ≡ true
+each-is_entry : all_below is_entry 2048 ≡ true
 unfolding is_entry bits zeros divisor rem divide
 each-is_entry = refl
 
-pub table-entry : (i : ℕ) → i < 256 → slice_index TABLE i ≡ value (crc (bits 8 i))
+pub table-entry : (byte behind : ℕ) → byte < 256 → behind < 8
+    → slice_index TABLE (256 * behind + byte) ≡ value (crc (bits 8 byte ++ zeros (8 * behind)))
 unfolding is_entry
-table-entry i lt = eqb-true _ _ (all_below-at is_entry 256 i each-is_entry lt)
+table-entry byte behind small few =
+    let i : ℕ = 256 * behind + byte in
+    let low : i % 256 ≡ byte = omega arith in
+    let high : i / 256 ≡ behind = omega arith in
+    eqb-true _ _ (all_below-at is_entry 2048 i each-is_entry (omega arith))
+    ∙ ap₂ (λ b k. value (crc (bits 8 b ++ zeros (8 * k)))) low high

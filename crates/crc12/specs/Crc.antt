@@ -1,6 +1,6 @@
 -- CRC-12 of a 64b/66b multiblock (JESD204C.1, 64b/66b link layer, cyclic redundancy check; the
 -- divisor, the start value and the bits that are covered are this project's own).
--- Code: a table of 256 entries, a byte at a time.
+-- Code: eight tables of 256 entries, one for each byte of a payload.
 use Rattle.std.specs.Prelude.{◌≡◌, ℕ, Bool, List, ◌++◌}
 use Rattle.jesd_base.specs.Bits.{bits, value, zeros}
 use Rattle.jesd_base.specs.Division.{rem}

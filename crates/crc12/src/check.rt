@@ -1,7 +1,6 @@
-//! The check, a byte at a time.
-ghost use Rattle.std.specs.Prelude.{◌≡◌, ◌^◌, ◌<◌, ℕ, Bool, List, [], ◌++◌};
-ghost use Rattle.std.specs.List.{flat_map};
-ghost use Rattle.jesd_base.specs.Bits.{bits, value};
+//! The check, a payload at a time.
+ghost use Rattle.std.specs.Prelude.{◌≡◌, ◌*◌, ◌^◌, ◌<◌, ℕ, Bool, List, [], ◌++◌};
+ghost use Rattle.jesd_base.specs.Bits.{bits, value, zeros};
 ghost use Rattle.crc12.specs.Crc.{crc, HasTaken};
 
 use crate::table::TABLE;
@@ -39,7 +38,10 @@ impl Crc12 {
         ensures { (taken : List Bool) → HasTaken self.old taken
             → HasTaken self.new (taken ++ bits 64 payload) }
     {
-        self.register = after_bytes(self.register, payload.to_be_bytes());
+        bits_and_numbers();
+        division();
+        // The check so far comes twelve bits wide before the bits of the payload.
+        self.register = check_of(payload ^ (u64::from(self.register) << 52));
     }
 
     /// The check of what was taken so far, twelve bits.
@@ -51,36 +53,25 @@ impl Crc12 {
     }
 }
 
-// The register after eight bytes.
-fn after_bytes(mut register: u16, bytes: [u8; 8]) -> u16
-    requires { register < 2 ^ 12 }
-    ensures stands { (taken : List Bool) → HasTaken register taken
-        → HasTaken result (taken ++ flat_map (bits 8) bytes) }
-    ensures below { result < 2 ^ 12 }
-{
-    for byte in bytes {
-        register = after_byte(register, byte);
-    }
-    register
-}
-
-// The register after one byte: its eight highest bits and the byte are one byte more to be divided, and
-// its four lowest go up.
-fn after_byte(register: u16, byte: u8) -> u16
-    requires { register < 2 ^ 12 }
-    ensures stands { (taken : List Bool) → HasTaken register taken
-        → HasTaken result (taken ++ bits 8 byte) }
+// The check of the 64 bits of a word alone.
+fn check_of(word: u64) -> u16
+    ensures is { result ≡ value (crc (bits 64 word)) }
     ensures below { result < 2 ^ 12 }
 {
     bits_and_numbers();
     division();
-    let high = (register >> 4) as u8;
-    ((register & 0xf) << 8) ^ entry(high ^ byte)
+    let mut check = 0;
+    for behind in 0..8 {
+        let byte = (word >> (8 * behind)) % 256;
+        check ^= entry(byte as u8, behind);
+    }
+    check
 }
 
-// The check of one byte alone.
-fn entry(byte: u8) -> u16
-    ensures { result ≡ value (crc (bits 8 byte)) }
+// The check of one byte with so many bytes of zeros behind it.
+fn entry(byte: u8, behind: u32) -> u16
+    requires { behind < 8 }
+    ensures { result ≡ value (crc (bits 8 byte ++ zeros (8 * behind))) }
 {
-    TABLE[byte as usize]
+    TABLE[256 * behind as usize + byte as usize]
 }

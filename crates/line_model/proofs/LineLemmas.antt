@@ -1,9 +1,9 @@
 -- The ring of words, the flips, and the received word.
-use Rattle.std.proofs.Common.{◌≡◌, ◌≢◌, ℕ, zero, suc, ◌+◌, ◌-◌, ◌*◌, ◌/◌, ◌%◌, ◌^◌, ◌<◌, ◌≤◌, ◌==◌, Bool, true, false, List, ◌∷◌, ◌++◌, map, length, get_or, take, set, refl, sym, ap, ap₂, ◌∙◌, inl, inr, length-append, length-set, arith, bit_and}
+use Rattle.std.proofs.Common.{◌≡◌, ◌≢◌, ℕ, zero, suc, ◌+◌, ◌-◌, ◌*◌, ◌/◌, ◌%◌, ◌^◌, ◌<◌, ◌≤◌, ◌==◌, Bool, true, false, List, ◌∷◌, ◌++◌, map, length, get_or, take, set, refl, sym, ap, ap₂, ◌∙◌, inl, inr, length-append, length-set, arith}
 use Rattle.std.specs.Prelude.{bit_or, bit_xor, ◌||◌, ◌⊎◌, max, if◌then◌else◌, nat_lt}
 use Rattle.std.specs.Int.{bit_at}
 use Rattle.std.proofs.lemmas.Bool.{cases_lt, cases_Bool, eq-eqb, ne_eqb, lt-ltb, le-ltb}
-use Rattle.std.proofs.lemmas.Nat.{and_mask, mod-pow-add, or_shifted, or_mod, shl-shr, shr-shr, shr_below, mod-mul-add, pow_pos, pow_below, div-add-mod'}
+use Rattle.std.proofs.lemmas.Nat.{mod-pow-add, or_shifted, or_mod, shl-shr, shr-shr, shr_below, mod-mul-add, pow_pos, pow_below, div-add-mod'}
 use Rattle.std.proofs.lemmas.Nat.Bits.{bit_at_or, bit_at_xor, bit_at-lt, bit_at-zero, bit_at-pow_same, bit_at-pow_other, bit_at_cat_low, bit_at_above}
 use Rattle.std.proofs.lemmas.List.{get_or-set_same, get_or-set_other, take_all}
 use Rattle.std.proofs.lemmas.List.Folds.{list_any_more}
@@ -87,15 +87,12 @@ low-of-both x r s w whole =
     ap (λ n. x % 2 ^ n / 2 ^ r) (sym whole) ∙ ap (λ y. y / 2 ^ r) (mod-pow-add x s r) ∙ d
 
 pub joined-is : (l t w rest : ℕ) → w ≤ 66 → rest < w → t < 2 ^ w
-    → bit_and (bit_or (l * 2 ^ (w - rest) % 2 ^ 128) (t / 2 ^ rest)) (1 * 2 ^ w % 2 ^ 128 - 1) ≡ l % 2 ^ rest * 2 ^ (w - rest) + t / 2 ^ rest
+    → bit_or (l * 2 ^ (w - rest) % 2 ^ 128) (t / 2 ^ rest) % 2 ^ w ≡ l % 2 ^ rest * 2 ^ (w - rest) + t / 2 ^ rest
 joined-is l t w rest most within small =
     let s : ℕ = w - rest in
     let whole : rest + s ≡ w = omega arith in
     let turned : s + rest ≡ w = omega arith in
     let wide : 128 - w + w ≡ 128 = omega arith in
-    let p : 2 ^ w < 2 ^ 128 = pow_below w 128 (omega arith) in
-    let q : 1 * 2 ^ w ≡ 2 ^ w = omega arith in
-    let mask : 1 * 2 ^ w % 2 ^ 128 ≡ 2 ^ w = ap (λ x. x % 2 ^ 128) q ∙ mod-eq_of_lt p in
     let up : l * 2 ^ s % 2 ^ w ≡ l % 2 ^ rest * 2 ^ s =
     ap (λ n. l * 2 ^ s % 2 ^ n) (sym whole)
     ∙ mod-pow-add (l * 2 ^ s) rest s
@@ -105,9 +102,7 @@ joined-is l t w rest most within small =
     let less : 2 ^ s ≤ 2 ^ w = ordered s w (omega arith) in
     let first : l * 2 ^ s % 2 ^ 128 % 2 ^ w ≡ l % 2 ^ rest * 2 ^ s =
     ap (λ n. l * 2 ^ s % 2 ^ n % 2 ^ w) (sym wide) ∙ mod-mod-pow (l * 2 ^ s) (128 - w) w ∙ up in
-    ap (λ m. bit_and (bit_or (l * 2 ^ s % 2 ^ 128) (t / 2 ^ rest)) (m - 1)) mask
-    ∙ and_mask (bit_or (l * 2 ^ s % 2 ^ 128) (t / 2 ^ rest)) w
-    ∙ or_mod (l * 2 ^ s % 2 ^ 128) (t / 2 ^ rest) w
+    or_mod (l * 2 ^ s % 2 ^ 128) (t / 2 ^ rest) w
     ∙ ap₂ bit_or first (mod-eq_of_lt (omega arith))
     ∙ or_shifted (l % 2 ^ rest) s (t / 2 ^ rest) below
   where

@@ -42,7 +42,8 @@ impl Model for Line {
 
     ghost view = { λ l. record { set = record { width = l.width; reach = l.reach; delay = l.delay; dead = l.dead; flips = l.flips.items }; words = l.words.items; at = l.at; next = l.next; first = l.first } };
 
-    ghost invariant = { λ l. ((l.width ≡ 10) ⊎ (l.width ≡ 66)) × (l.reach ≤ 67584) × (l.delay ≤ l.reach) × (l.rest < l.width) × (l.whole * l.width + l.rest ≡ l.delay) × (l.whole + 2 ≤ vec_len l.words) × (vec_len l.words ≡ l.reach / l.width + 2) × (l.at < vec_len l.words) × (l.next ≤ vec_len l.flips) × (l.first ≤ 2 ^ 64) × IsStrictlyIncreasing l.flips.items × ((k : ℕ) → l.next ≤ k → k < vec_len l.flips → l.first ≤ get_or l.flips.items k 0) };
+    ghost invariant = { λ l. ((l.width ≡ 10) ⊎ (l.width ≡ 66)) × (l.reach ≤ 67584) × (l.delay ≤ l.reach) × (l.rest < l.width) × (l.whole * l.width + l.rest ≡ l.delay) × (l.whole + 2 ≤ vec_len l.words) × (vec_len l.words ≡ l.reach / l.width + 2) × (l.at < vec_len l.words) × (l.next ≤ vec_len l.flips) × (l.first ≤ 2 ^ 64) × IsStrictlyIncreasing l.flips.items × ((k : ℕ) → l.next ≤ k → k < vec_len l.flips → l.first ≤ get_or l.flips.items k 0)
+        × ((k : ℕ) → get_or l.words.items k 0 < 2 ^ l.width) };
 }
 
 impl Line {
@@ -164,6 +165,7 @@ impl Line {
     }
 
     fn put(&mut self, word: u128)
+        requires { word < 2 ^ self.old.set.width }
         ensures set { self.new.set ≡ self.old.set }
         ensures next { self.new.next ≡ self.old.next }
         ensures first { self.new.first ≡ self.old.first }
@@ -177,7 +179,9 @@ impl Line {
     // The word that is `age` ticks old.
     fn aged(&self, age: usize) -> u128
         requires { age < length self.now.words }
-        ensures { (w v : ℕ) → Ring self.now.words self.now.at w v → result ≡ v / 2 ^ (w * age) % 2 ^ w }
+        ensures is { (w v : ℕ) → Ring self.now.words self.now.at w v
+            → result ≡ v / 2 ^ (w * age) % 2 ^ w }
+        ensures below { result < 2 ^ self.now.set.width }
     {
         if age < self.at {
             return self.words[self.at - 1 - age];
@@ -192,12 +196,34 @@ impl Line {
         ensures below { result < 2 ^ self.now.set.width }
     {
         let newer = self.aged(self.whole);
+        if self.rest == 0 {
+            return newer;
+        }
         let older = self.aged(self.whole + 1);
         joined(older, newer, self.width, self.rest)
     }
 
     // The flips of the tick, as bits of its word.
     fn take_flips(&mut self) -> u128
+        ensures set { self.new.set ≡ self.old.set }
+        ensures words { self.new.words ≡ self.old.words }
+        ensures at { self.new.at ≡ self.old.at }
+        ensures below { result < 2 ^ self.old.set.width }
+        ensures counts { (n : ℕ) → Counted self.old.set.flips self.old.next self.old.first n
+            → Counted self.new.set.flips self.new.next self.new.first (n + self.old.set.width) }
+        ensures mask { (n : ℕ) → Counted self.old.set.flips self.old.next self.old.first n
+            → (p : ℕ) → p < self.old.set.width → (bit_at result p == 1)
+            ≡ arrived self.old.set.delay (n + self.old.set.width - 1 - p) (is_flipped self.old.set.flips (n + self.old.set.width - 1 - p)) }
+    {
+        if self.next == self.flips.len() {
+            return 0;
+        }
+        self.take_some_flips()
+    }
+
+    // The flips of the tick where there are flips to come.
+    #[inline(never)]
+    fn take_some_flips(&mut self) -> u128
         ensures set { self.new.set ≡ self.old.set }
         ensures words { self.new.words ≡ self.old.words }
         ensures at { self.new.at ≡ self.old.at }
@@ -229,14 +255,27 @@ fn place_after(at: usize, size: usize) -> usize
     if at + 1 < size { at + 1 } else { 0 }
 }
 
+// The last `width` bits of a word.
+fn low_bits(word: u128, width: u32) -> u128
+    requires { (width ≡ 10) ⊎ (width ≡ 66) }
+    ensures { result ≡ word % 2 ^ width }
+{
+    if width == 10 {
+        word % 1024
+    } else {
+        word % (1 << 66)
+    }
+}
+
 // The last `rest` bits of one word, and the bits of the next one but its last `rest`.
 fn joined(older: u128, newer: u128, width: u32, rest: u32) -> u128
     requires width { width ≤ 66 }
+    requires known { (width ≡ 10) ⊎ (width ≡ 66) }
     requires rest { rest < width }
     ensures is { newer < 2 ^ width → result ≡ older % 2 ^ rest * 2 ^ (width - rest) + newer / 2 ^ rest }
     ensures below { result < 2 ^ width }
 {
-    ((older << (width - rest)) | (newer >> rest)) & ((1 << width) - 1)
+    low_bits((older << (width - rest)) | (newer >> rest), width)
 }
 
 // The index of the first flip from this index on that is not below this bit.

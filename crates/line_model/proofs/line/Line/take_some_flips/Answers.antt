@@ -5,7 +5,7 @@ use Rattle.std.proofs.lemmas.List.Kept.{AllPairs-from_increasing}
 use Rattle.line_model.specs.LineBits.{is_flipped}
 use Rattle.line_model.specs.kept.Lines.{Kept, Counted, arrived}
 use Rattle.line_model.proofs.LineLemmas.{Passes, counts-on, mask-is}
-use Rattle.line_model.proofs.line.Line.take_flips.Goals as goal
+use Rattle.line_model.proofs.line.Line.take_some_flips.Goals as goal
 
 passes : (c : goal.After-self-2-1) → Passes c.self.inside.flips.items c.self.inside.next c.flips_below-to.result (c.self.inside.first + c.self.inside.width)
 passes c =
@@ -64,4 +64,4 @@ invariant_of-self c =
     let p = passes c in
     let len : length c.self.inside.flips.items ≡ vec_len c.self.inside.flips = sym (ap length c.deref.ensures.value) ∙ c.deref.ensures.len in
     let most = p.most in
-    (i.0, i.1, i.2, i.3, i.4, i.5, i.6, i.7, omega arith, omega arith, i.10, λ k a b. let h = p.above k a (omega arith) in omega arith)
+    (i.0, i.1, i.2, i.3, i.4, i.5, i.6, i.7, omega arith, omega arith, i.10, λ k a b. let h = p.above k a (omega arith) in omega arith, i.12)
