@@ -2,7 +2,7 @@
 use Rattle.std.proofs.Common.{◌≡◌, ◌≢◌, ℕ, ◌+◌, ◌-◌, ◌%◌, ◌==◌, ◌<◌, ◌≤◌, nat_le, not, ◌&&◌, ◌||◌, if◌then◌else◌, Bool, true, false, List, [], ◌∷◌, ◌++◌, length, get_or, Some, refl, sym, ◌∙◌, ap, subst, inl, inr, arith, length-append, eq-eqb, le-leb}
 use Rattle.std.proofs.Math.ListN.{get_or-append}
 use Rattle.std.proofs.Math.Seq.{get_or-append_seam}
-use Rattle.std.proofs.lemmas.Bool.{cases_Bool, cases_lt, and_parts, or_cases, eqb-true, leb-true}
+use Rattle.std.proofs.lemmas.Bool.{cases_Bool, cases_lt, and_parts, or_cases, eqb-true, leb-true, true≢false}
 use Rattle.std.proofs.lemmas.Option.{slice_get-get_or, get_or_from_slice_get}
 use Rattle.link_params.specs.declared.fields.Params.{Params}
 use Rattle.link_params.specs.declared.fields.Mode.TheVariants.{B}
@@ -76,7 +76,7 @@ before-is s p readings given g x o h top b f k plain held =
     let place : frame_end p (length readings) ≡ x - p.f = rw (← top) (frame_end-before p x end) in
     let same = h.restored.whole in
     let full : p.f ≤ length readings = omega arith in
-    get_or-append given (g ∷ []) nothing (x - p.f) (omega arith) ∙ sym (rw place at (h.last full))
+    get_or-append given (g ∷ []) nothing (x - p.f) (omega arith) ∙ sym (rw place at (h.last plain full))
 
 -- the two ways to give agree where the repeated places do
 same_given : (fault scr accepted : Bool) (o : ℕ) (before last : Restored) → (scr ≡ false → accepted ≡ true → before ≡ last)
@@ -92,6 +92,16 @@ same_given true false true o before last h =
 same_given false false true o before last h =
     let f : Restored → Restored = λ r. record { octet = r.octet; bad = r.bad; fault = false } in ap f (h refl refl)
 
+same_begun : (scr before now : Bool) → (scr ≡ false → before ≡ now) → (scr || before) ≡ (scr || now)
+same_begun true before now h = refl
+same_begun false before now h = h refl
+
+-- without scrambling a whole frame was read where it is kept so
+same-begun : (s : Receiver) (p : Params) (readings : List Reading) (given : List Restored) (x : ℕ)
+    → HasRestored s p readings given → x ≡ length readings → (p.scr || s.begun) ≡ (p.scr || nat_le p.f x)
+same-begun s p readings given x h top =
+    same_begun p.scr s.begun (nat_le p.f x) (λ plain. h.begun plain ∙ ap (nat_le p.f) (sym top))
+
 -- what a reading gives follows from what is kept
 pub given-is : (s : Receiver) (p : Params) (readings : List Reading) (given : List Restored) (r : Reading) (g : Restored) (x : ℕ) → HasRestored s p readings given
     → x ≡ length readings → p.mode ≡ B → 1 ≤ p.f → 1 ≤ p.k
@@ -101,11 +111,11 @@ given-is s p readings given (Disparity (Data o)) g x h top b f k = elim (cases_B
 given-is s p readings given Invalid g x h top b f k = refl
 given-is s p readings given (Read (Control o)) g x h top b f k =
     let kept = before-is s p readings given g x o h top b f k in
-    let begun : s.begun ≡ nat_le p.f x = h.begun ∙ ap (nat_le p.f) (sym top) in
+    let begun = same-begun s p readings given x h top in
     rw (h.params, begun) (same_given false p.scr (is_accepted p x (Control o)) o (get_or (given ++ g ∷ []) (x - p.f) nothing) s.last kept)
 given-is s p readings given (Disparity (Control o)) g x h top b f k =
     let kept = before-is s p readings given g x o h top b f k in
-    let begun : s.begun ≡ nat_le p.f x = h.begun ∙ ap (nat_le p.f) (sym top) in
+    let begun = same-begun s p readings given x h top in
     rw (h.params, begun) (same_given true p.scr (is_accepted p x (Control o)) o (get_or (given ++ g ∷ []) (x - p.f) nothing) s.last kept)
 
 -- the next reading inside a frame
@@ -121,11 +131,11 @@ restored-inside s p readings given r g h b f k apart due =
     record {
       restored = is_restored-more p readings given r g h.restored (due ∙ sym (given-is s p readings given r g x h refl b f k));
       params = h.params;
-      begun = h.begun ∙ sym (ap (nat_le p.f) long ∙ begun-inside p.f x f apart);
-      last = λ room.
+      begun = λ plain. h.begun plain ∙ sym (ap (nat_le p.f) long ∙ begun-inside p.f x f apart);
+      last = λ plain room.
           let old : p.f ≤ x = leb-true p.f x (sym (begun-inside p.f x f apart) ∙ le-leb p.f (x + 1) (omega arith)) in
           let inside : frame_end p x < length given = omega arith in
-          h.last old ∙ sym (get_or-append given (g ∷ []) nothing (frame_end p x) inside) ∙ ap (get_or_at (given ++ g ∷ []) nothing) (sym place);
+          h.last plain old ∙ sym (get_or-append given (g ∷ []) nothing (frame_end p x) inside) ∙ ap (get_or_at (given ++ g ∷ []) nothing) (sym place);
     }
 
 -- the next reading at the end of a frame
@@ -142,8 +152,8 @@ restored-end s later p readings given r g h b f k end due params begun last =
     record {
       restored = is_restored-more p readings given r g h.restored (due ∙ sym (given-is s p readings given r g x h refl b f k));
       params = params ∙ h.params;
-      begun = begun ∙ sym (ap (nat_le p.f) long ∙ le-leb p.f (x + 1) full);
-      last = λ room. last ∙ sym (ap (get_or_at (given ++ g ∷ []) nothing) (place ∙ sym same) ∙ get_or-append_seam given g [] nothing);
+      begun = λ plain. begun ∙ sym (ap (nat_le p.f) long ∙ le-leb p.f (x + 1) full);
+      last = λ plain room. last ∙ sym (ap (get_or_at (given ++ g ∷ []) nothing) (place ∙ sym same) ∙ get_or-append_seam given g [] nothing);
     }
 
 -- one reading more, by what the place says
@@ -181,3 +191,22 @@ restored-push_end s later q place r g end whole kept serial ends wholes top due 
     let sizes = has_period p legal in
     restored-end s later p readings given r g h legal.mode sizes.f sizes.k (eqb-true (x % p.f + 1) p.f (sym e ∙ top))
     (due ∙ ap (λ (b : Bool). given_by_kept s b whole r) e ∙ ap (λ (b : Bool). given_by_kept s (x % p.f + 1 == p.f) b r) w) (params ∙ sym kept) begun last
+
+-- what a data character gives does not depend on its place
+data-gives : (p : Params) (given : List Restored) (x o : ℕ)
+    → record { octet = o; bad = false; fault = false } ≡ given_at p given x (Read (Data o))
+data-gives p given x o = elim (cases_Bool p.scr) [ inl scr ↦ rw scr refl | inr plain ↦ rw plain refl ]
+
+-- one data character more with scrambling
+pub restored-push_scrambled : (s : Receiver) (q : Params) (o : ℕ) → s.params ≡ q → q.scr ≡ true
+    → (p : Params) (readings : List Reading) (given : List Restored) → HasRestored s p readings given
+    → HasRestored s p (readings ++ Read (Data o) ∷ []) (given ++ (record { octet = o; bad = false; fault = false }) ∷ [])
+restored-push_scrambled s q o kept scr p readings given h =
+    let is : p.scr ≡ true = ap (λ (n : Params). n.scr) (sym h.params ∙ kept) ∙ scr in
+    let g : Restored = record { octet = o; bad = false; fault = false } in
+    record {
+      restored = is_restored-more p readings given (Read (Data o)) g h.restored (data-gives p (given ++ g ∷ []) (length readings) o);
+      params = h.params;
+      begun = λ plain. absurd (true≢false (sym is ∙ plain));
+      last = λ plain room. absurd (true≢false (sym is ∙ plain));
+    }

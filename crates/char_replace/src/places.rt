@@ -1,11 +1,11 @@
 //! What ends at a place of a multiframe.
-ghost use Rattle.std.specs.Prelude.{ℕ, ◌≡◌, ◌%◌, ◌+◌, ◌==◌, ◌&&◌, ◌||◌, not};
+ghost use Rattle.std.specs.Prelude.{ℕ, ◌≡◌, ◌≤◌, ◌%◌, ◌+◌, ◌==◌, ◌&&◌, ◌||◌, not};
 ghost use Rattle.link_params.specs.Numbers.{period};
 ghost use Rattle.char_replace.specs.kept.Ends.{IsSerial};
 ghost use Rattle.char_replace.specs.Replacement.{ends_multiframe, is_data};
 
 use code_8b10b::{Char, K28_3, K28_7};
-use link_params::Params;
+use link_params::{Params, place_in_frame};
 
 /// Whether a control character is the alignment character of a place: /A/ where a multiframe ends
 /// (`whole`), /F/ where another frame does (`end`: a frame ends there).
@@ -20,7 +20,7 @@ pub(crate) fn is_frame_end(params: &Params, place: u32) -> bool
     requires { IsSerial params.now }
     ensures { (x : ℕ) → place ≡ x % period params.now → result ≡ (x % params.now.f + 1 == params.now.f) }
 {
-    place % params.f + 1 == params.f
+    place_in_frame(place, params.f) + 1 == params.f
 }
 
 /// Whether the multiframe ends at this place of it.

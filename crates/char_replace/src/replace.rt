@@ -11,8 +11,8 @@ use code_8b10b::{Char, K28_3, K28_7};
 use link_params::{Params, Shape};
 use std::marker::Model;
 
-/// The characters of a lane's data octets. Contracts see it as the parameters and, without scrambling, whether a whole frame
-/// was sent, the octet that ended the last one, and whether that was sent as data.
+/// The characters of a lane's data octets. Contracts see its fields; with scrambling nothing is said
+/// of the last three.
 #[derive(Clone, Copy, Debug)]
 pub struct Replace {
     params: Params,

@@ -13,11 +13,13 @@ use code_8b10b::{Char, Reading};
 use link_params::{Params, Shape};
 use std::marker::Model;
 
-/// The octets of a lane's readings. Contracts see it as the parameters, whether a whole frame was read, and what the place
-/// that ended the last one gave.
+/// The octets of a lane's readings. Contracts see its fields; with scrambling nothing is said of the
+/// last two.
 #[derive(Clone, Copy, Debug)]
 pub struct Restore {
     params: Params,
+    // Whether a whole frame was read, and what the place that ended the last one gave. With
+    // scrambling neither is looked at.
     begun: bool,
     last: Restored,
 }
@@ -57,6 +59,15 @@ impl Restore {
         ensures { (p : ParamsValue) (readings : List ReadingValue) (given : List RestoredValue) → HasRestored self.old p readings given → place ≡ length readings % period p
             → HasRestored self.new p (readings ++ reading ∷ []) (given ++ result ∷ []) }
     {
+        if self.params.scr {
+            if let Reading::Char(Char::Data(octet)) = reading {
+                return Restored {
+                    octet,
+                    bad: false,
+                    fault: false,
+                };
+            }
+        }
         let end = is_frame_end(&self.params, place);
         let given = self.given(end, is_multiframe_end(&self.params, place), reading);
         if end {

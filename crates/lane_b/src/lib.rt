@@ -6,7 +6,7 @@
 //! let mut receiver = RxLaneB::open(alloc, &link, 0)?;
 //! sender.run(place, &octets, &mut words); // data that goes on, as so many ticks
 //! receiver.take(&order, word);
-//! let count = receiver.run_to_change(&order, period, &words);
+//! let count = receiver.run_to_change(&order, &words);
 //! let report = receiver.report();
 //! ```
 #![tactic(auto)]

@@ -5,7 +5,7 @@ ghost use Rattle.link_params.specs.declared.fields.Params.{Params as ParamsValue
 ghost use Rattle.link_params.specs.declared.fields.Timing.{Timing as TimingValue};
 ghost use Rattle.link_params.specs.declared.fields.Mode.TheVariants.{B};
 ghost use Rattle.link_params.specs.Lanes.{Taken, Entry, Placed, is_inside};
-ghost use Rattle.link_params.specs.Numbers.{depth};
+ghost use Rattle.link_params.specs.Numbers.{depth, period};
 ghost use Rattle.link_params.specs.Runs.{word_ticks};
 ghost use Rattle.lane_b.specs.kept.Gives.{given, ComesInOrder, Holds};
 ghost use Rattle.lane_b.specs.Received.{report_b, entries_b};
@@ -13,7 +13,7 @@ ghost use Rattle.lane_b.specs.Locking.{is_comma};
 ghost use Rattle.code_8b10b.specs.declared.character.Reading.{Reading as ReadingValue};
 ghost use Rattle.lane_b.specs.kept.Starts.{HasRead};
 ghost use Rattle.lane_b.specs.kept.Receivers.{AreTens, IsLocked, HasTaken};
-ghost use Rattle.lane_b.specs.kept.Ticks.{Does, Reads, Keeps};
+ghost use Rattle.lane_b.specs.kept.Ticks.{Begins, Does, Reads, Keeps};
 
 use crate::chars::Chars;
 use crate::started::Started;
@@ -110,19 +110,21 @@ impl RxLaneB {
     }
 
     /// Takes the bits of a run of ticks in which no hunt begins, as so many calls of `take`.
-    /// `order` is that of the first tick; each later one has the next offset, counted from 0 in a
-    /// round of `period`. The buffer has room for an entry of each tick.
-    pub fn run(&mut self, order: &RxOrder, period: u32, words: &[u16])
+    /// `order` is that of the first tick; each later one has the next offset, which goes round in
+    /// the link's period. The buffer has room for an entry of each tick, even where the lane has not
+    /// started.
+    pub fn run(&mut self, order: &RxOrder, words: &[u16])
         requires hunt { order.now.hunt ≡ false }
-        requires offset { order.now.offset < period }
+        requires offset { order.now.offset < period self.old.params }
         requires bits { (i : ℕ) → i < length words.now → get_or words.now i 0 < 1024 }
         requires room { length self.old.buffer.cells + length words.now
             ≤ self.old.buffer.depth }
         ensures goes_on { (p : ParamsValue) (t : TimingValue) (lane : ℕ) (taken : List Taken)
             (gave : ℕ) → HasTaken self.old p t lane taken gave → HasTaken self.new p t lane
-            (taken ++ word_ticks 10 order.now period words.now (length words.now)) gave }
+            (taken ++ word_ticks 10 order.now (period p) words.now (length words.now)) gave }
         ensures depth { self.new.buffer.depth ≡ self.old.buffer.depth }
     {
+        let period = self.period();
         let mut now = *order;
         for i in 0..words.len() {
             self.tick(&now, words[i]);
@@ -131,28 +133,30 @@ impl RxLaneB {
     }
 
     /// As `run`, but only up to the first tick after which the lane's report is another than
-    /// before. Gives how many ticks were taken.
-    pub fn run_to_change(&mut self, order: &RxOrder, period: u32, words: &[u16]) -> usize
+    /// before. Gives how many ticks were taken. Where all were taken, the report after the last tick
+    /// may be another too.
+    pub fn run_to_change(&mut self, order: &RxOrder, words: &[u16]) -> usize
         requires hunt { order.now.hunt ≡ false }
-        requires offset { order.now.offset < period }
+        requires offset { order.now.offset < period self.old.params }
         requires bits { (i : ℕ) → i < length words.now → get_or words.now i 0 < 1024 }
         requires room { length self.old.buffer.cells + length words.now
             ≤ self.old.buffer.depth }
         ensures within { result ≤ length words.now }
         ensures alike { (p : ParamsValue) (t : TimingValue) (lane : ℕ) (taken : List Taken)
             (gave : ℕ) → HasTaken self.old p t lane taken gave → (n : ℕ) → n < result
-            → report_b p t lane (taken ++ word_ticks 10 order.now period words.now n)
+            → report_b p t lane (taken ++ word_ticks 10 order.now (period p) words.now n)
             ≡ report_b p t lane taken }
         ensures change { (p : ParamsValue) (t : TimingValue) (lane : ℕ) (taken : List Taken)
             (gave : ℕ) → HasTaken self.old p t lane taken gave → result < length words.now
-            → report_b p t lane (taken ++ word_ticks 10 order.now period words.now result)
+            → report_b p t lane (taken ++ word_ticks 10 order.now (period p) words.now result)
             ≢ report_b p t lane taken }
         ensures goes_on { (p : ParamsValue) (t : TimingValue) (lane : ℕ) (taken : List Taken)
             (gave : ℕ) → HasTaken self.old p t lane taken gave → HasTaken self.new p t lane
-            (taken ++ word_ticks 10 order.now period words.now result) gave }
+            (taken ++ word_ticks 10 order.now (period p) words.now result) gave }
         ensures depth { self.new.buffer.depth ≡ self.old.buffer.depth }
     {
         let before = self.report();
+        let period = self.period();
         let mut next = *order;
         for i in 0..words.len() {
             self.tick(&next, words[i]);
@@ -162,6 +166,13 @@ impl RxLaneB {
             next.offset = place_after(next.offset, period);
         }
         words.len()
+    }
+
+    // The link's period in ticks.
+    pub(crate) fn period(&self) -> u32
+        ensures { result ≡ period self.now.params }
+    {
+        self.link.shape().period()
     }
 
     // A hunt begins: nothing was taken yet.
@@ -281,14 +292,22 @@ impl Chain {
         match &mut self.start {
             Some(start) => start.push(reading),
             None if is_comma(reading) => Step::Stay,
-            None if order.armed => {
-                let mut start = Start::new(link, lane, order.offset);
-                let step = start.push(reading);
-                self.start = Some(start);
-                step
-            }
+            None if order.armed => self.begin(link, lane, order.offset, reading),
             None => Step::Drop,
         }
+    }
+
+    // The lane starts with this reading. It stands apart so that other ticks do not pay for the size of a start.
+    #[inline(never)]
+    fn begin(&mut self, link: &Link, lane: u32, offset: u32, reading: Reading) -> Step
+        requires mode { link.now.params.mode ≡ B }
+        requires lane { lane < link.now.params.l }
+        ensures { Begins result self.old self.new link.now.params link.now.timing lane offset reading }
+    {
+        let mut start = Start::new(link, lane, offset);
+        let step = start.push(reading);
+        self.start = Some(start);
+        step
     }
 
     fn report(&self) -> LaneReport

@@ -108,6 +108,7 @@ impl TxLaneB {
         ensures same { self.new.params ≡ self.old.params }
     {
         let period = self.link.shape().period();
+        // In a local, so that the loop need not store each tick what stands behind `self`.
         let empty = TxLaneB::new(&self.link, self.lane);
         let mut own = mem::replace(self, empty);
         let mut at = place;

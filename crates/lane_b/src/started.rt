@@ -1,5 +1,5 @@
 //! A receiver lane from the start of its alignment sequence on.
-ghost use Rattle.std.specs.Prelude.{◌≡◌, ◌<◌, ◌≤◌, ◌*◌, ◌++◌, ◌∷◌, [], ℕ, List};
+ghost use Rattle.std.specs.Prelude.{◌≡◌, ◌<◌, ◌≤◌, ◌*◌, ◌%◌, ◌++◌, ◌∷◌, [], ℕ, List};
 ghost use Rattle.link_params.specs.declared.fields.Params.{Params as ParamsValue};
 ghost use Rattle.link_params.specs.declared.fields.Mode.TheVariants.{B};
 ghost use Rattle.code_8b10b.specs.declared.character.Reading.{Reading as ReadingValue};
@@ -76,7 +76,7 @@ impl Started {
             self.loss.push(fault, alignment);
             return None;
         }
-        let given = self.octets.push(place % period, reading);
+        let given = self.octets.push(place_of_data(period, place), reading);
         self.loss.push(given.fault, alignment);
         Some(given.cell)
     }
@@ -94,6 +94,16 @@ impl Started {
     {
         self.loss.is_lost()
     }
+}
+
+// The place in its multiframe of a reading of data.
+fn place_of_data(period: u32, place: u32) -> u32
+    requires from { 4 * period ≤ place }
+    requires place { place < 6 * period }
+    ensures { result ≡ place % period }
+{
+    let past = place - 4 * period;
+    if past < period { past } else { past - period }
 }
 
 // The place that comes after this one.

@@ -258,14 +258,14 @@ impl Bench {
     // Gives how many it took.
     fn run(&mut self, order: &RxOrder, words: &[u16], is_whole: bool) -> Option<usize> {
         let fits = self.lane.held() as usize + words.len() <= self.depth as usize;
-        if order.hunt || order.offset >= 17 || !fits || !are_tens(words) {
+        if order.hunt || order.offset >= self.lane.period() || !fits || !are_tens(words) {
             return None;
         }
         if is_whole {
-            self.lane.run(order, 17, words);
+            self.lane.run(order, words);
             return Some(words.len());
         }
-        Some(self.lane.run_to_change(order, 17, words))
+        Some(self.lane.run_to_change(order, words))
     }
 }
 

@@ -150,6 +150,8 @@ impl Pipeline {
     }
 
     // The multiblock that arrived is whole: its sync word carries the check of the one before it.
+    // It stands apart since most blocks end no multiblock.
+    #[inline(never)]
     fn turn(&mut self, mode: Mode)
         requires { mode ≢ B }
         ensures judged { (blocks next : List (List Bool)) → length blocks ≡ 32 → length next ≡ 32

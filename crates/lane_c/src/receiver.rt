@@ -1,11 +1,11 @@
 //! The receiver's end of a lane.
-ghost use Rattle.std.specs.Prelude.{◌≡◌, ◌≢◌, ◌<◌, ◌≤◌, ◌+◌, ◌-◌, ◌++◌, ◌∷◌, [], ◌^◌, ◌==◌, ◌&&◌, ℕ, List, false, true, length, drop, get_or, option_map, IfOk, None, Some, ◌%◌, ◌/◌, suc, if◌then◌else◌};
+ghost use Rattle.std.specs.Prelude.{◌≡◌, ◌≢◌, ◌<◌, ◌≤◌, ◌+◌, ◌-◌, ◌++◌, ◌∷◌, [], ◌^◌, ◌==◌, ◌&&◌, ℕ, List, false, true, length, drop, get_or, min, option_map, IfOk, None, Some, ◌%◌, ◌/◌, suc, if◌then◌else◌};
 ghost use Rattle.jesd_base.specs.Bits.{bits as bits_of};
 ghost use Rattle.link_params.specs.declared.fields.Mode.TheVariants.{B};
 ghost use Rattle.link_params.specs.declared.fields.Params.{Params as ParamsValue};
 ghost use Rattle.link_params.specs.declared.fields.Timing.{Timing as TimingValue};
 ghost use Rattle.link_params.specs.Lanes.{Held as HeldEntry, Placed, Taken};
-ghost use Rattle.link_params.specs.Numbers.{depth};
+ghost use Rattle.link_params.specs.Numbers.{depth, period};
 ghost use Rattle.link_params.specs.Runs.{word_ticks};
 ghost use Rattle.lane_c.specs.Received.{entries_c, report_c, report_of};
 ghost use Rattle.lane_c.specs.declared.receiver.Start.{Start as StartValue};
@@ -16,6 +16,7 @@ ghost use Rattle.lane_c.specs.Locking.{bits_taken};
 
 use crate::loss::Loss;
 use crate::pipeline::Pipeline;
+use crate::sender::period;
 use block_66b::{BitWindow, SyncBit, unpack};
 use elastic_buffer::ElasticBuffer;
 use jesd_base::NoMemory;
@@ -135,20 +136,26 @@ impl RxLaneC {
 
     /// Takes the bits of a run of ticks in which no hunt begins, as so many calls of `take`.
     /// `order` is that of the first tick, and is armed where the order before it was; each later
-    /// one has the next offset, counted from 0 in a round of `period`. The buffer has room for an
-    /// entry of each tick.
-    pub fn run(&mut self, order: &RxOrder, period: u32, blocks: &[u128])
+    /// one has the next offset, which goes round in the link's period. The buffer has room for an
+    /// entry of each tick, even where the lane has not started. A lane that has started inside its
+    /// window then holds as many entries more as ticks were taken.
+    pub fn run(&mut self, order: &RxOrder, blocks: &[u128])
         requires hunt { order.now.hunt ≡ false }
-        requires offset { order.now.offset < period }
+        requires offset { order.now.offset < period self.old.params }
         requires bits { (i : ℕ) → i < length blocks.now → get_or blocks.now i 0 < 2 ^ 66 }
         requires room { length self.old.buffer.cells + length blocks.now
             ≤ self.old.buffer.depth }
         ensures goes_on { (p : ParamsValue) (t : TimingValue) (lane : ℕ) (taken : List Taken)
             (gave : ℕ) → HasTaken self.old p t lane taken gave → IsArmedOn taken order.now
             → HasTaken self.new p t lane
-            (taken ++ word_ticks 66 order.now period blocks.now (length blocks.now)) gave }
+            (taken ++ word_ticks 66 order.now (period p) blocks.now (length blocks.now)) gave }
+        ensures grows { (p : ParamsValue) (t : TimingValue) (lane : ℕ) (taken : List Taken)
+            (gave : ℕ) → HasTaken self.old p t lane taken gave → IsArmedOn taken order.now
+            → is_inside_now p t lane taken ≡ true
+            → length self.new.buffer.cells ≡ length self.old.buffer.cells + length blocks.now }
         ensures depth { self.new.buffer.depth ≡ self.old.buffer.depth }
     {
+        let period = self.period();
         let mut now = *order;
         for i in 0..blocks.len() {
             self.tick(&now, blocks[i]);
@@ -157,10 +164,11 @@ impl RxLaneC {
     }
 
     /// As `run`, but only up to the first tick after which the lane's report is another than
-    /// before. Gives how many ticks were taken.
-    pub fn run_to_change(&mut self, order: &RxOrder, period: u32, blocks: &[u128]) -> usize
+    /// before. Gives how many ticks were taken. Where all were taken, the report after the last tick
+    /// may be another too.
+    pub fn run_to_change(&mut self, order: &RxOrder, blocks: &[u128]) -> usize
         requires hunt { order.now.hunt ≡ false }
-        requires offset { order.now.offset < period }
+        requires offset { order.now.offset < period self.old.params }
         requires bits { (i : ℕ) → i < length blocks.now → get_or blocks.now i 0 < 2 ^ 66 }
         requires room { length self.old.buffer.cells + length blocks.now
             ≤ self.old.buffer.depth }
@@ -168,20 +176,25 @@ impl RxLaneC {
         ensures alike { (p : ParamsValue) (t : TimingValue) (lane : ℕ) (taken : List Taken)
             (gave : ℕ) → HasTaken self.old p t lane taken gave → IsArmedOn taken order.now
             → (n : ℕ) → n < result
-            → report_c p t lane (taken ++ word_ticks 66 order.now period blocks.now n)
+            → report_c p t lane (taken ++ word_ticks 66 order.now (period p) blocks.now n)
             ≡ report_c p t lane taken }
         ensures change { (p : ParamsValue) (t : TimingValue) (lane : ℕ) (taken : List Taken)
             (gave : ℕ) → HasTaken self.old p t lane taken gave → IsArmedOn taken order.now
             → result < length blocks.now
-            → report_c p t lane (taken ++ word_ticks 66 order.now period blocks.now result)
+            → report_c p t lane (taken ++ word_ticks 66 order.now (period p) blocks.now result)
             ≢ report_c p t lane taken }
         ensures goes_on { (p : ParamsValue) (t : TimingValue) (lane : ℕ) (taken : List Taken)
             (gave : ℕ) → HasTaken self.old p t lane taken gave → IsArmedOn taken order.now
             → HasTaken self.new p t lane
-            (taken ++ word_ticks 66 order.now period blocks.now result) gave }
+            (taken ++ word_ticks 66 order.now (period p) blocks.now result) gave }
+        ensures grows { (p : ParamsValue) (t : TimingValue) (lane : ℕ) (taken : List Taken)
+            (gave : ℕ) → HasTaken self.old p t lane taken gave → IsArmedOn taken order.now
+            → is_inside_now p t lane taken ≡ true
+            → length self.new.buffer.cells ≡ length self.old.buffer.cells + result }
         ensures depth { self.new.buffer.depth ≡ self.old.buffer.depth }
     {
         let before = self.report();
+        let period = self.period();
         let mut next = *order;
         for i in 0..blocks.len() {
             self.tick(&next, blocks[i]);
@@ -191,6 +204,13 @@ impl RxLaneC {
             next.offset = place_after(next.offset, period);
         }
         blocks.len()
+    }
+
+    // The link's period in ticks.
+    pub(crate) fn period(&self) -> u32
+        ensures { result ≡ period self.now.params }
+    {
+        self.link.shape().period()
     }
 
     // A hunt begins: nothing was taken yet. It stands apart since a hunt takes 16 KB.
@@ -217,7 +237,8 @@ impl RxLaneC {
         ensures grows { (p : ParamsValue) (t : TimingValue) (lane : ℕ) (taken : List Taken)
             (gave : ℕ) → HasTaken self.old p t lane taken gave
             → IsArmedOn taken order.now → is_inside_now p t lane taken ≡ true
-            → length self.new.buffer.cells ≡ suc (length self.old.buffer.cells) }
+            → (length self.new.buffer.cells ≡ suc (length self.old.buffer.cells))
+            × (is_inside_now p t lane (taken ++ tick_of order.now bits ∷ []) ≡ true) }
         ensures depth { self.new.buffer.depth ≡ self.old.buffer.depth }
         ensures most { length self.new.buffer.cells ≤ length self.old.buffer.cells + 1 }
     {
@@ -340,12 +361,12 @@ impl Held {
     {
         let shape = link.shape();
         let params = shape.params();
-        let period = shape.period();
+        let period = period(&shape);
         let first = leaves_first(self.place, params.e);
         let end = self.place == period - 1;
         let (cell, newly_lost) = self.read(params.mode, self.place % 32, end, bits);
         self.place = place_after(self.place, period);
-        self.after = self.after.saturating_add(1).min(96);
+        self.after = counted(self.after);
         if newly_lost && !order.armed {
             return Step::Drop;
         }
@@ -445,6 +466,13 @@ fn offset(start: &Option<Start>) -> Option<u32>
         Some(start) => Some(start.offset),
         None => None,
     }
+}
+
+// One block more, up to 96.
+fn counted(after: u32) -> u32
+    ensures { result ≡ min (after + 1) 96 }
+{
+    if after < 96 { after + 1 } else { 96 }
 }
 
 // A header is bad.

@@ -14,7 +14,7 @@ use block_66b::pack;
 use crc12::Crc12;
 use fire_fec::parity;
 use lane_scramble::Scr58;
-use link_params::{Link, Mode, TxOrder, place_after};
+use link_params::{Link, Mode, Shape, TxOrder, place_after};
 use multiblock::sync_word;
 use std::marker::Model;
 use std::mem;
@@ -117,6 +117,7 @@ impl TxLaneC {
         ensures same { self.new.params ≡ self.old.params }
     {
         let period = self.link.shape().period();
+        // In a local, so that the loop need not store each tick what stands behind `self`.
         let empty = TxLaneC::new(&self.link);
         let mut own = mem::replace(self, empty);
         let mut at = place;
@@ -144,7 +145,7 @@ impl TxLaneC {
         ensures next { self.new.next ≡ Some (suc place % period_of self.old.params) }
         ensures same { self.new.params ≡ self.old.params }
     {
-        let period = self.link.shape().period();
+        let period = period(&self.link.shape());
         if place % 32 == 0 {
             self.begin(place, first, period);
         }
@@ -191,6 +192,16 @@ impl TxLaneC {
         self.next = Some(place_after(place, period));
         pack(sync_bit(self.word, at), scrambled)
     }
+}
+
+// The blocks of an extended multiblock, the link's period in ticks.
+pub(crate) fn period(shape: &Shape) -> u32
+    requires mode { shape.now.mode ≢ B }
+    ensures value { result ≡ period_of shape.now }
+    ensures low { 17 ≤ result }
+    ensures high { result ≤ 1024 }
+{
+    32 * shape.params().e
 }
 
 // Sync bit `at` of a sync word.

@@ -36,5 +36,5 @@ pub use law::Law;
 pub use link::Link;
 pub use numbers::sizes;
 pub use orders::{RxOrder, TxOrder};
-pub use place::place_after;
+pub use place::{place_after, place_in_frame};
 pub use shape::Shape;

@@ -43,12 +43,12 @@ pub record Receiver : Type 0 where
   pub begun : Bool
   pub last : Restored
 
--- a receiver was handed these readings and gave these
+-- a receiver was handed these readings and gave these; with scrambling it keeps nothing of them
 pub record HasRestored (now : Receiver) (p : Params) (readings : List Reading) (given : List Restored) : Type 0 where
   pub restored : IsRestored p readings given
   pub params : now.params ≡ p
-  pub begun : now.begun ≡ nat_le p.f (length readings)
-  pub last : p.f ≤ length readings → now.last ≡ slice_index_or given (frame_end p (length readings)) nothing
+  pub begun : p.scr ≡ false → now.begun ≡ nat_le p.f (length readings)
+  pub last : p.scr ≡ false → p.f ≤ length readings → now.last ≡ slice_index_or given (frame_end p (length readings)) nothing
 
 -- what the end of a frame is sent as, by what is kept; whole: the end of a multiframe
 abbrev pub char_by_kept : Sender → Bool → ℕ → Char

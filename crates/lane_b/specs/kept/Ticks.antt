@@ -1,10 +1,10 @@
 -- What a tick does to a receiver lane that is locked.
 -- Code: one step for each state of a lane.
-use Rattle.std.specs.Prelude.{◌≡◌, ℕ, ◌-◌, Bool, true, false, List, [], ◌∷◌, ◌++◌, drop, Option}
+use Rattle.std.specs.Prelude.{◌≡◌, ℕ, ◌-◌, Bool, true, false, List, [], ◌∷◌, ◌++◌, drop, Option, Some}
 use Rattle.link_params.specs.declared.fields.Params.{Params}
 use Rattle.link_params.specs.declared.fields.Timing.{Timing}
 use Rattle.link_params.specs.declared.cells.LaneCell.{LaneCell}
-use Rattle.link_params.specs.Lanes.{Entry, Taken}
+use Rattle.link_params.specs.Lanes.{Entry, Taken, is_inside}
 use Rattle.code_8b10b.specs.declared.character.Reading.{Reading}
 use Rattle.code_8b10b.specs.Commas.{HasHunted}
 use Rattle.lane_b.specs.declared.receiver.Chain.{Chain}
@@ -35,6 +35,15 @@ pub record Reads (step : Step) (old new : Start) (p : Params) (lane : ℕ) (sinc
   pub inside : new.inside ≡ old.inside
   pub has_read : HasRead new.lane p lane (since ++ r ∷ [])
   pub step_of : StepOf step new.inside p since r
+
+-- the lane starts with this reading
+pub record Begins (step : Step) (old new : Chain) (p : Params) (t : Timing) (lane due : ℕ) (r : Reading) : Type 0 where
+  pub start : Start
+  pub is : new ≡ record old { start = Some start }
+  pub offset : start.offset ≡ due
+  pub inside : start.inside ≡ is_inside t start.offset
+  pub has_read : HasRead start.lane p lane (r ∷ [])
+  pub step_of : StepOf step start.inside p [] r
 
 -- an entry more, given so
 pub record HasEntry (e : Option LaneCell) (old new : List Entry) : Type 0 where

@@ -249,6 +249,7 @@ Does step.Stay now p t lane taken x =
 Does (step.Keep cell) now p t lane taken x =
     IsHeld now p t (taken ++ x ∷ [])
     × (entries_c p t lane (taken ++ x ∷ []) ≡ entries_c p t lane taken ++ HeldEntry cell ∷ [])
+    × (is_inside_now p t lane (taken ++ x ∷ []) ≡ true)
 Does step.Drop now p t lane taken x =
     HasDropped now p.e taken x × (entries_c p t lane taken ≡ [])
     × (is_inside_now p t lane taken ≡ false)

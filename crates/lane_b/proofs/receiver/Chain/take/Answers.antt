@@ -1,5 +1,4 @@
-use Rattle.std.proofs.Common.{◌≡◌, ◌∙◌, ap, sym, refl, [], Some}
-use Rattle.link_params.specs.Lanes.{is_inside}
+use Rattle.std.proofs.Common.{◌∙◌, sym, refl, Some}
 use Rattle.lane_b.specs.Locking.{bits_taken, lock_at, since_start}
 use Rattle.lane_b.proofs.StageLemmas.{next_char, goes_on, stays, starts_now, drops}
 use Rattle.lane_b.proofs.receiver.Chain.take.Goals as goal
@@ -25,13 +24,10 @@ returns-in-None-2 c = λ taken tens o.
     let old = c.args.self.now in
     let e = c.next-reading.ensures in
     let n = next_char old.chars c.next-reading.new.self c.args.order.now c.args.bits c.next-reading.result e.rest e.last e.rd e.reading in
-    let s = c.new-start.ensures in
-    let reads = c.push-step.ensures c.args.link.now.params c.args.lane [] s.has_read in
-    let offset : c.push-step.new.self.offset ≡ c.args.order.now.offset = reads.offset ∙ s.offset in
-    starts_now old (record { chars = c.next-reading.new.self; start = Some c.push-step.new.self }) c.args.link.now.params c.args.link.now.timing c.args.lane taken _ c.next-reading.result tens o n
+    let b = c.begin.ensures in
+    rw b.is (starts_now old (record { chars = c.next-reading.new.self; start = Some b.start }) c.args.link.now.params c.args.link.now.timing c.args.lane taken _ c.next-reading.result tens o n
     c.in-None.is (sym c.is_comma.ensures ∙ c.if-is_comma.false)
-    c.push-step.new.self c.push-step.result c.if-order.true refl offset (reads.inside ∙ s.inside ∙ ap (is_inside c.args.link.now.timing) (sym offset)) reads.has_read
-    (reads.step_of)
+    b.start c.begin.result c.if-order.true refl b.offset b.inside b.has_read b.step_of)
 
 pub returns-in-None-3 : goal.returns-in-None-3
 returns-in-None-3 c = λ taken tens o.

@@ -1,28 +1,36 @@
-use Rattle.std.proofs.Common.{◌∙◌, refl, arith}
+use Rattle.std.proofs.Common.{◌≡◌, ◌<◌, ◌∙◌, ℕ, refl, sym, ap, subst, arith}
+use Rattle.link_params.specs.declared.orders.RxOrder.{RxOrder}
+use Rattle.link_params.specs.Numbers.{period}
+use Rattle.link_params.specs.Runs.{later}
 use Rattle.link_params.proofs.RunLemmas.{later-more, later-start}
 use Rattle.lane_b.proofs.RunSteps.{goes-more, goes-none}
 use Rattle.lane_b.proofs.receiver.RxLaneB.run.Goals as goal
 
 pub loop-i-init : goal.loop-i-init
-loop-i-init c = (
-  later-start c.args.order.now c.args.period c.requires.hunt c.requires.offset,
-  c.requires.offset,
-  omega arith,
-  refl,
-  goes-none c.args.self.now c.args.order.now c.args.period c.args.words.now,
-)
+loop-i-init c =
+    let low : c.args.order.now.offset < c.period-period.result =
+    subst (λ (k : ℕ). c.args.order.now.offset < k) (sym c.period-period.ensures) c.requires.offset in (
+      later-start c.args.order.now c.period-period.result c.requires.hunt low,
+      low,
+      omega arith,
+      refl,
+      goes-none c.args.self.now c.args.order.now c.args.words.now,
+    )
 
 pub loop-i-preserved : goal.loop-i-preserved
 loop-i-preserved c =
     let so_far = c.loop-i.invariant in
+    let is : c.loop-i.now ≡ later c.args.order.now (period c.args.self.now.params) c.loop-i.i =
+    c.loop-i.invariant.0 ∙ ap {B = RxOrder} (λ (k : ℕ). later c.args.order.now k c.loop-i.i)
+    c.period-period.ensures in
     let most = c.tick.ensures.most in
     let held = so_far.2 in
-    let next = later-more c.args.order.now c.args.period c.loop-i.i c.loop-i.now
+    let next = later-more c.args.order.now c.period-period.result c.loop-i.i c.loop-i.now
     c.place_after.result so_far.0 so_far.1 (c.place_after.ensures.next so_far.1) in (
       next.0,
       next.1,
       omega arith,
       c.tick.ensures.depth ∙ so_far.3,
-      goes-more c.args.self.now c.loop-i.self c.tick.new.self c.args.order.now c.args.period
-          c.args.words.now c.loop-i.i c.loop-i.now so_far.0 so_far.4 c.tick.ensures.goes_on,
+      goes-more c.args.self.now c.loop-i.self c.tick.new.self c.args.order.now
+          c.args.words.now c.loop-i.i c.loop-i.now is so_far.4 c.tick.ensures.goes_on,
     )

@@ -8,4 +8,4 @@ invariant-loop-i l =
     (l.now ≡ later l.order l.period l.i) × (l.now.offset < l.period)
     × (length l.self.buffer.cells ≤ length l.fn.self.buffer.cells + l.i)
     × (l.self.buffer.depth ≡ l.fn.self.buffer.depth)
-    × GoesSo l.fn.self l.self l.order l.period l.words l.i
+    × GoesSo l.fn.self l.self l.order l.words l.i

@@ -8,5 +8,5 @@ invariant-loop-i l =
     (l.next ≡ later l.order l.period l.i) × (l.next.offset < l.period)
     × (length l.self.buffer.cells ≤ length l.fn.self.buffer.cells + l.i)
     × (l.self.buffer.depth ≡ l.fn.self.buffer.depth)
-    × GoesSo l.fn.self l.self l.order l.period l.words l.i
-    × TellsSame l.fn.self l.order l.period l.words l.i
+    × GoesSo l.fn.self l.self l.order l.words l.i
+    × TellsSame l.fn.self l.order l.words l.i

@@ -43,7 +43,7 @@ returns-clause-entry c = λ p lane since h.
     let was = rw (← c.self.view_is) at h in
     let size : c.period-period.result ≡ period p = c.period-period.ensures.value ∙ ap period (c.shape-shape.ensures.same ∙ was.params) in
     let past = kept-past (period p) (length since) (rw (size, was.place) at c.if-place-period.false) in
-    let at = ap (λ (x : ℕ). c.self.inside.place % x) size ∙ data-place p since c.self.inside.place was.place past in
+    let at = c.place_of_data.ensures ∙ ap (λ (x : ℕ). c.self.inside.place % x) size ∙ data-place p since c.self.inside.place was.place past in
     let gives = c.push-given.ensures.cell p (drop (ilas_length p) since) was.octets at in
     record { entry = Held c.push-given.result.cell; added = entries-held p since c.args.reading c.push-given.result.cell past gives; gives = refl }
 
@@ -54,7 +54,7 @@ returns-clause-goes_on c = λ p lane since h.
     let serial : IsSerial c.self.inside.link.params = record { legal = c.shape-shape.ensures.legal; mode = c.self.invariant.0 } in
     let size : c.period-period.result ≡ period p = c.period-period.ensures.value ∙ ap period (c.shape-shape.ensures.same ∙ same) in
     let past = kept-past (period p) (length since) (rw (size, was.place) at c.if-place-period.false) in
-    let at = ap (λ (x : ℕ). c.self.inside.place % x) size ∙ data-place p since c.self.inside.place was.place past in
+    let at = c.place_of_data.ensures ∙ ap (λ (x : ℕ). c.self.inside.place % x) size ∙ data-place p since c.self.inside.place was.place past in
     let fault = c.push-given.ensures.fault p (drop (ilas_length p) since) was.octets at ∙ sym (fault-in_data p since c.args.reading past) in
     let alignment = c.alignment_at-alignment.ensures
     ∙ ap (λ (q : Params). alignment_at q c.self.inside.place c.args.reading) (c.shape-shape.ensures.same ∙ same) in

@@ -1,4 +1,4 @@
-use Rattle.std.proofs.Common.{◌≡◌, ◌≢◌, ◌≤◌, ◌<◌, ◌-◌, ◌+◌, ◌/◌, ◌%◌, ◌^◌, ◌==◌, ◌&&◌, min, if◌then◌else◌, Bool, false, Some, suc, length, refl, sym, ◌∙◌, ap, ap₂, arith, subst}
+use Rattle.std.proofs.Common.{◌≡◌, ◌≢◌, ◌≤◌, ◌<◌, ◌-◌, ◌+◌, ◌/◌, ◌%◌, ◌==◌, ◌&&◌, min, if◌then◌else◌, Bool, false, Some, suc, length, refl, sym, ◌∙◌, ap, ap₂, arith, subst}
 use Rattle.std.proofs.lemmas.Bool.{true≢false}
 use Rattle.jesd_base.specs.Bits.{bits}
 use Rattle.jesd_base.proofs.BitLemmas.{bits_length}
@@ -44,7 +44,7 @@ returns c = λ p t lane taken h words params timing on.
     let kept = c.read-newly_lost.ensures.same in
     let same = c.begin.ensures.same in
     let stood : mid.place ≡ old.place = ap (λ (k : Held). k.place) kept in
-    let counted : new.after ≡ c.min-self.result = ap (λ (k : Held). k.after) same in
+    let counted : new.after ≡ c.counted-self.result = ap (λ (k : Held). k.after) same in
     let first : Bool = c.leaves_first-first.result in
     let moves : Moves old new p t taken x h = record {
       size = size;
@@ -61,9 +61,8 @@ returns c = λ p t lane taken h words params timing on.
             (true≢false (sym newly ∙ w.if-newly_lost.false))
       ];
       count = counted
-          ∙ counted-on h.blocks old.after c.min-self.result h.count
-          (c.min-self.ensures ∙ ap (λ n. min n 96) (c.saturating_add.ensures
-          ∙ ap (λ (k : Held). min (k.after + 1) (2 ^ 32 - 1)) kept));
+          ∙ counted-on h.blocks old.after c.counted-self.result h.count
+          (c.counted-self.ensures ∙ ap (λ (k : Held). min (k.after + 1) 96) kept);
       next = ap (λ (k : Held). k.place) same
           ∙ next-on (next_place p.e h.at.remainder) h.blocks (period p) old.place
           c.place_after-self.result (omega (arith, period-c p not_b)) h.next

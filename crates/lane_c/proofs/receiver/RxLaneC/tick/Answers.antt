@@ -109,7 +109,11 @@ returns-in-Keep-clause-grows c = λ p t lane taken gave h armed inside.
     let more = ap (λ q. length q.cells) c.push-in-Keep.ensures
     ∙ length-append c.self.inside.buffer.cells (c.in-Keep.cell ∷ []) in
     let same = ap (λ (r : Receiver). length r.buffer.cells) c.self.view_is in
-    more ∙ ap (λ n. n + 1) same ∙ omega arith
+    let old = rw (← c.self.view_is) at h in
+    let held = rw c.in-Held.is at old.stands in
+    let does = rw c.in-Keep.is at c.take.ensures p t lane taken held old.words old.params old.timing
+    armed in
+    (more ∙ ap (λ n. n + 1) same ∙ omega arith, does.2)
 
 pub returns-in-Drop-clause-grows : goal.returns-in-Drop-clause-grows
 returns-in-Drop-clause-grows c = λ p t lane taken gave h armed inside.
