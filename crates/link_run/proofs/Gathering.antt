@@ -1,10 +1,10 @@
 -- Frames as they are gathered, by columns of octets.
-use Rattle.std.proofs.Common.{◌≡◌, ℕ, ◌+◌, ◌-◌, ◌*◌, ◌/◌, ◌%◌, ◌==◌, ◌<◌, ◌≤◌, if◌then◌else◌, List, [], ◌∷◌, ◌++◌, map, length, get_or, set, take, get_or-set_other, get_or-set_same, refl, ap, ap₂, ◌∙◌, sym, subst, append_assoc, arith, inl, inr, true, false, Some, None, ne_eqb}
+use Rattle.std.proofs.Common.{◌≡◌, ℕ, ◌+◌, ◌-◌, ◌*◌, ◌/◌, ◌%◌, ◌==◌, ◌<◌, ◌≤◌, ◌⊎◌, if◌then◌else◌, List, [], ◌∷◌, ◌++◌, map, length, get_or, set, take, get_or-set_other, get_or-set_same, refl, ap, ap₂, ◌∙◌, sym, subst, append_assoc, arith, inl, inr, true, false, Some, None, ne_eqb}
 use Rattle.std.specs.Prelude.{fold, is_some, slice_index, Option}
-use Rattle.std.proofs.Math.Seq.{get_or-append_seam, take-length}
+use Rattle.std.proofs.Math.Seq.{get_or-append-add, take-length}
 use Rattle.std.proofs.Math.ListN.{get_or-append}
 use Rattle.std.proofs.Math.Nat.{mod-lt, zero-mod, mul-le-mul_right}
-use Rattle.std.proofs.lemmas.List.{append-nil, ext_get_or, get_or-map, length-append, length-map, map_more, length-set}
+use Rattle.std.proofs.lemmas.List.{append-nil, ext_get_or, get_or-map, length-append, length-map, length-set, map-append, map_more, map_push}
 use Rattle.std.proofs.lemmas.List.Sums.{fold-append}
 use Rattle.std.proofs.lemmas.Nat.{div-mul-add, mod-mul-add}
 use Rattle.std.proofs.lemmas.Bool.{cases_lt, cond-false, cond-true, eq-eqb}
@@ -15,12 +15,11 @@ use Rattle.link_params.specs.declared.cells.Mark.TheVariants.{Ok as Good}
 use Rattle.link_params.specs.Lanes.{worse}
 use Rattle.link_params.specs.Numbers.{octets_per_tick}
 use Rattle.scenario.specs.Plans.{numbers_from}
-use Rattle.sample_map.specs.Frames.{words_of}
-use Rattle.link_model.proofs.NumberLists.{length-numbers, map-numbers}
-use Rattle.link_model.proofs.WholeFrames.{cells-stay, first-columns-more, first_columns, octet-is, octet_column, div-le, whole-part, whole-parts-more}
+use Rattle.link_model.proofs.NumberLists.{get_or-numbers, length-numbers, map-numbers, numbers-append}
+use Rattle.link_model.proofs.WholeFrames.{cells-stay, first_columns, octet-is, octet_column, div-le, whole-part}
 use Rattle.link_model.specs.kept.Before.{Columns, cell_at, cells_of, mark_of, no_cell, octet_columns, values_of}
 use Rattle.link_run.proofs.Marks.{IsWorst, get_or-cells, lane-lt, length-cells, mark_of-cells, some-of-product, worst_more, worst_same, worst_unique}
-use Rattle.link_run.specs.kept.Gathered.{FramesAre, Gathering, GathersOn, HasFinished, HasGathered, HasPut, Whole, octet_at, whole_of}
+use Rattle.link_run.specs.kept.Gathered.{FramesAre, Gathering, GathersOn, HasFinished, HasGathered, HasPut, IsWritten, Whole, columns_from, octet_at, whole_of}
 
 -- m octets of each lane are there, with this mark
 record IsPart (p : Params) (m : ℕ) (cell : ℕ → ℕ → LaneCell) (mark : Mark)
@@ -31,84 +30,102 @@ record IsPart (p : Params) (m : ℕ) (cell : ℕ → ℕ → LaneCell) (mark : M
 
 -- ---- columns
 
-cell-before : (p : Params) (columns : Columns) (column : List LaneCell) (q lane j : ℕ)
+cell-before : (p : Params) (columns more : Columns) (q lane j : ℕ)
     → q * p.f + j < length columns
-    → cell_at p (columns ++ column ∷ []) q lane j ≡ cell_at p columns q lane j
-cell-before p columns column q lane j lt =
-    ap (λ c. get_or c lane no_cell) (get_or-append columns (column ∷ []) [] (q * p.f + j) lt)
+    → cell_at p (columns ++ more) q lane j ≡ cell_at p columns q lane j
+cell-before p columns more q lane j lt =
+    ap (λ c. get_or c lane no_cell) (get_or-append columns more [] (q * p.f + j) lt)
 
-cell-last : (p : Params) (columns : Columns) (column : List LaneCell) (q lane j : ℕ)
-    → q * p.f + j ≡ length columns
-    → cell_at p (columns ++ column ∷ []) q lane j ≡ get_or column lane no_cell
-cell-last p columns column q lane j e =
-    ap (λ i. get_or (get_or (columns ++ column ∷ []) i []) lane no_cell) e
-    ∙ ap (λ c. get_or c lane no_cell) (get_or-append_seam columns column [] [])
+length-columns : (p : Params) (column : List LaneCell) (j n : ℕ)
+    → length (columns_from p column j n) ≡ n
+length-columns p column j n =
+    length-map (numbers_from j n) (octet_column p column) ∙ length-numbers n j
 
--- an octet of each cell has the cell's mark
-marks-of-octets : (p : Params) (column : List LaneCell) (j : ℕ) → j < octets_per_tick p
-    → map (λ c. c.mark) (octet_column p column j) ≡ map (λ c. c.mark) column
-marks-of-octets p [] j below = refl
-marks-of-octets p (c ∷ column) j below =
-    ap₂ (λ (m : Mark) (ms : List Mark). m ∷ ms)
-    (ap (λ (x : LaneCell). x.mark) (octet-is p c j below))
-    (marks-of-octets p column j below)
+-- octet i of the n that come behind these columns
+cell-new : (p : Params) (columns : Columns) (column : List LaneCell) (q lane m j n i : ℕ)
+    → q * p.f + m ≡ length columns → i < n → lane < length column
+    → cell_at p (columns ++ columns_from p column j n) q lane (m + i)
+    ≡ octet_at p (get_or column lane no_cell) (j + i)
+cell-new p columns column q lane m j n i e below in_lanes =
+    let more : Columns = columns_from p column j n in
+    let numbers = length-numbers n j in
+    let place : q * p.f + (m + i) ≡ length columns + i = omega arith in
+    ap (λ c. get_or c lane no_cell)
+    (ap (λ (k : ℕ). get_or (columns ++ more) k []) place
+    ∙ get_or-append-add columns more i []
+    ∙ get_or-map (octet_column p column) (numbers_from j n) i 0 [] (omega arith)
+    ∙ ap (octet_column p column) (get_or-numbers n i j 0 below))
+    ∙ get_or-map (λ c. octet_at p c (j + i)) column lane no_cell no_cell in_lanes
 
--- an octet of each lane that was put is part of the frame
+-- octets of each lane that were put are part of the frame
 part-more : (old now : Gathering) (p : Params) (columns : Columns) (given : List (Option LaneCell))
-    (column : List LaneCell) (j : ℕ)
-    → 0 < p.f → length column ≡ p.l → j < octets_per_tick p → given ≡ map (λ c. Some c) column
-    → HasGathered old p columns → HasPut old now given j
-    → IsPart p (old.at + 1)
-    (cell_at p (columns ++ octet_column p column j ∷ []) (length columns / p.f)) now.mark now.octets
-part-more old now p columns given column j some size below all had put =
-    let n = length columns in
-    let q = n / p.f in
-    let octets = octet_column p column j in
-    let cell = cell_at p (columns ++ octets ∷ []) q in
+    (column : List LaneCell) (j n : ℕ)
+    → 0 < n → length column ≡ p.l → j + n ≤ octets_per_tick p → given ≡ map (λ c. Some c) column
+    → HasGathered old p columns → HasPut old now given j n
+    → IsPart p (old.at + n)
+    (cell_at p (columns ++ columns_from p column j n) (length columns / p.f)) now.mark now.octets
+part-more old now p columns given column j n some size below all had put =
+    let long = length columns in
+    let q = long / p.f in
+    let more : Columns = columns_from p column j n in
+    let cell = cell_at p (columns ++ more) q in
     let count = had.count in
-    let split : q * p.f + n % p.f ≡ n = omega arith in
+    let split : q * p.f + long % p.f ≡ long = omega arith in
     let before = λ (lane i : ℕ) (in_lanes : lane < p.l) (in_lane : i < old.at).
-    (let lt : q * p.f + i < n = omega arith in cell-before p columns octets q lane i lt) in
-    let last =
-    λ (lane : ℕ). (let e : q * p.f + old.at ≡ n = omega arith in
-    cell-last p columns octets q lane old.at e) in
+    (let lt : q * p.f + i < long = omega arith in cell-before p columns more q lane i lt) in
+    let seam : q * p.f + old.at ≡ long = omega arith in
+    let new = λ (lane i : ℕ) (in_lanes : lane < p.l) (in_new : i < n).
+    cell-new p columns column q lane old.at j n i seam in_new (omega arith) in
     let worst : IsWorst p.l old.at (cell_at p columns q) old.mark =
     rw had.worst (mark_of-cells p.l old.at (cell_at p columns q)) in
-    let mark : now.mark ≡ fold worse old.mark (map (λ c. c.mark) octets) =
-    put.worst column all ∙ ap (fold worse old.mark) (sym (marks-of-octets p column j below)) in
-    let long : length octets ≡ p.l = length-map column (λ c. octet_at p c j) ∙ size in
     let kept = rw had.same_params at put.kept in
     let here = rw had.same_params at (put.put column all) in
     record {
       worst =
-          rw mark
-          (worst_more p.l old.at cell old.mark octets long last
+          rw (put.worst column all)
+          (worst_more p.l old.at n cell old.mark column some size
+          (λ lane i in_lanes in_new. ap (λ c. c.mark) (new lane i in_lanes in_new
+          ∙ octet-is p (get_or column lane no_cell) (j + i) (omega arith)))
           (worst_same p.l old.at (cell_at p columns q) cell old.mark before worst));
       octets = λ lane i in_lanes in_lane. elim (cases_lt i old.at) [
-        | inl within ↦ kept lane i (omega arith) (λ e. absurd (omega arith))
+        | inl within ↦ kept lane i within
             ∙ (had.octets lane i in_lanes within
             ∙ ap (λ c. c.value) (sym (before lane i in_lanes within)))
         | inr past ↦
-            let e : i ≡ old.at = omega arith in
-            rw e (here lane (omega arith)
-            ∙ ap (λ c. c.value) (sym (last lane
-            ∙ get_or-map (λ c. octet_at p c j) column lane no_cell no_cell (omega arith))))
+            let x = i - old.at in
+            let e : i ≡ old.at + x = omega arith in
+            ap (λ (k : ℕ). slice_index now.octets (lane * p.f + k)) e
+            ∙ here lane x (omega arith) (omega arith)
+            ∙ ap (λ c. c.value) (sym (new lane x in_lanes (omega arith)))
+            ∙ ap (λ (k : ℕ). (cell lane k).value) (sym e)
       ];
     }
 
--- ---- an octet of each lane, lane by lane
+-- ---- octets of each lane, lane by lane
 
-places-apart : (lane m f j at : ℕ) → j < f → at < f → (j ≡ at → ⊥) → lane * f + j ≡ m * f + at → ⊥
-places-apart lane m f j at in_lane in_place apart e =
-    apart (sym (mod-mul-add lane f j in_lane) ∙ (ap (λ x. x % f) e ∙ mod-mul-add m f at in_place))
+-- a place of a lane, and the n places of another lane from `at` on, all within a frame
+lanes-apart : (lane m f i at n : ℕ) → i < f → at + n ≤ f → (lane ≡ m → i < at)
+    → (lane * f + i < m * f + at) ⊎ (m * f + at + n ≤ lane * f + i)
+lanes-apart lane m f i at n in_lane in_frame before = elim (cases_lt lane m) [
+  | inl below ↦
+      let h : (lane + 1) * f ≤ m * f =
+      mul-le-mul_right f (let q : lane + 1 ≤ m = omega arith in q) in
+      inl (omega arith)
+  | inr past ↦ elim (cases_lt m lane) [
+    | inl above ↦
+        let h : (m + 1) * f ≤ lane * f =
+        mul-le-mul_right f (let q : m + 1 ≤ lane = omega arith in q) in
+        inr (omega arith)
+    | inr here ↦
+        let e : lane ≡ m = omega arith in
+        let low = before e in
+        let same : lane * f ≡ m * f = ap (λ (k : ℕ). k * f) e in
+        inl (omega arith)
+  ]
+]
 
-lanes-apart : (lane m f at : ℕ) → 0 < f → lane < m → lane * f + at ≡ m * f + at → ⊥
-lanes-apart lane m f at some lt e =
-    let h : (lane + 1) * f ≤ m * f = mul-le-mul_right f (let q : lane + 1 ≤ m = omega arith in q) in
-    absurd (omega arith)
-
--- octet j of each of the first m lanes was put
-pub record IsPutting (old now : Gathering) (given : List (Option LaneCell)) (j m : ℕ)
+-- n octets from octet j on of each of the first m lanes were put
+pub record IsPutting (old now : Gathering) (given : List (Option LaneCell)) (j n m : ℕ)
     : Type 0 where
   pub same_params : now.params ≡ old.params
   pub same_at : now.at ≡ old.at
@@ -117,9 +134,10 @@ pub record IsPutting (old now : Gathering) (given : List (Option LaneCell)) (j m
   pub worst : (column : List LaneCell) → given ≡ map (λ c. Some c) column
       → now.mark ≡ fold worse old.mark (map (λ c. c.mark) (take m column))
   pub put : (column : List LaneCell) → given ≡ map (λ c. Some c) column
-      → (lane : ℕ) → lane < m → slice_index now.octets (lane * old.params.f + old.at)
-      ≡ (octet_at old.params (get_or column lane no_cell) j).value
-  pub kept : (lane i : ℕ) → i < old.params.f → (i ≡ old.at → ⊥)
+      → (lane i : ℕ) → lane < m → i < n
+      → slice_index now.octets (lane * old.params.f + (old.at + i))
+      ≡ (octet_at old.params (get_or column lane no_cell) (j + i)).value
+  pub kept : (lane i : ℕ) → i < old.at
       → slice_index now.octets (lane * old.params.f + i)
       ≡ slice_index old.octets (lane * old.params.f + i)
 
@@ -131,27 +149,61 @@ in-column given column m lt is =
     let within : m < length column = omega arith in
     (within, ap (λ g. get_or g m None) is ∙ get_or-map (λ c. Some c) column m no_cell None within)
 
+pub written-none : (old : List ℕ) (place : ℕ) (octet : ℕ → ℕ) → IsWritten old old place 0 octet
+written-none old place octet = record {
+  size = refl;
+  written = λ i below. absurd (omega arith);
+  kept = λ k outside. refl;
+}
+
+-- one octet more
+pub written-more : (old mid now : List ℕ) (place n x : ℕ) (octet : ℕ → ℕ)
+    → place + n < length mid → x ≡ octet n → now ≡ set mid (place + n) x
+    → IsWritten old mid place n octet → IsWritten old now place (n + 1) octet
+written-more old mid now place n x octet inside value is had = rw is (record {
+  size = length-set mid (place + n) x ∙ had.size;
+  written = λ i below. elim (cases_lt i n) [
+    | inl before ↦
+        let apart = λ (e : place + i ≡ place + n). absurd (omega arith) in
+        get_or-set_other mid (place + n) (place + i) x 0 apart ∙ had.written i before
+    | inr past ↦
+        let e : i ≡ n = omega arith in
+        rw e (get_or-set_same mid (place + n) x 0 inside ∙ value)
+  ];
+  kept = λ k outside. elim outside [
+    | inl low ↦
+        get_or-set_other mid (place + n) k x 0 (λ e. absurd (omega arith)) ∙ had.kept k (inl low)
+    | inr high ↦
+        get_or-set_other mid (place + n) k x 0 (λ e. absurd (omega arith))
+        ∙ had.kept k (inr (omega arith))
+  ];
+})
+
+pub written-as : (old now : List ℕ) (place n to : ℕ) (f g : ℕ → ℕ) → place ≡ to
+    → ((i : ℕ) → i < n → f i ≡ g i) → IsWritten old now place n f → IsWritten old now to n g
+written-as old now place n to f g is same had = subst (λ (k : ℕ). IsWritten old now k n g) is
+    (record {
+      size = had.size;
+      written = λ i below. had.written i below ∙ same i below;
+      kept = had.kept;
+    })
+
 -- what a lane more gave
-pub putting-more : (old mid now : Gathering) (given : List (Option LaneCell)) (j m octet : ℕ)
-    (cell : LaneCell) → m < length given
-    → get_or given m None ≡ Some cell → old.at < old.params.f
-    → m * old.params.f + old.at < length mid.octets
-    → octet ≡ (octet_at old.params cell j).value
-    → now ≡ record mid {
-      mark = worse mid.mark cell.mark;
-      octets = set mid.octets (m * old.params.f + old.at) octet;
-    }
-    → IsPutting old mid given j m → IsPutting old now given j (m + 1)
-putting-more old mid now given j m octet cell lt there within in_frame value is had =
+pub putting-more : (old mid now : Gathering) (given : List (Option LaneCell)) (j n m : ℕ)
+    (octets : List ℕ) (cell : LaneCell) → m < length given
+    → get_or given m None ≡ Some cell → old.at + n ≤ old.params.f
+    → IsWritten mid.octets octets (m * old.params.f + old.at) n
+    (λ i. (octet_at old.params cell (j + i)).value)
+    → now ≡ record mid { mark = worse mid.mark cell.mark; octets = octets }
+    → IsPutting old mid given j n m → IsPutting old now given j n (m + 1)
+putting-more old mid now given j n m octets cell lt there within wrote is had =
     let f = old.params.f in
     let at = old.at in
-    let place = m * f + at in
-    let some : 0 < f = omega arith in
     rw is (record {
       same_params = had.same_params;
       same_at = had.same_at;
       same_frames = had.same_frames;
-      size = rw length-set had.size;
+      size = wrote.size ∙ had.size;
       worst = λ column all.
           let in_lanes = in-column given column m lt all in
           let same : cell ≡ get_or column m no_cell = cc in
@@ -160,30 +212,31 @@ putting-more old mid now given j m octet cell lt there within in_frame value is 
           let folds = fold-append worse old.mark (map (λ c. c.mark) (take m column)) last in
           rw (marks, folds, same)
           (ap (λ w. worse w ((get_or column m no_cell).mark)) (had.worst column all));
-      put = λ column all lane in_lanes. elim (cases_lt lane m) [
+      put = λ column all lane i in_lanes in_new. elim (cases_lt lane m) [
         | inl below ↦
-            let apart = λ (e : lane * f + at ≡ place). lanes-apart lane m f at some below e in
-            get_or-set_other mid.octets place (lane * f + at) octet 0 apart
-            ∙ had.put column all lane below
+            wrote.kept (lane * f + (at + i)) (lanes-apart lane m f (at + i) at n (omega arith)
+            within (λ e. absurd (omega arith)))
+            ∙ had.put column all lane i below in_new
         | inr past ↦
             let e : lane ≡ m = omega arith in
             let inside = in-column given column m lt all in
             let same : cell ≡ get_or column m no_cell = cc in
-            rw e (get_or-set_same mid.octets place octet 0 in_frame ∙ value
-            ∙ ap (λ c. (octet_at old.params c j).value) same)
+            let place : m * f + (at + i) ≡ m * f + at + i = omega arith in
+            rw e (ap (λ (k : ℕ). slice_index octets k) place ∙ wrote.written i in_new
+            ∙ ap (λ c. (octet_at old.params c (j + i)).value) same)
       ];
-      kept = λ lane i in_lane apart.
-          let places = λ (e : lane * f + i ≡ place). places-apart lane m f i at in_lane within apart
-          e in
-          get_or-set_other mid.octets place (lane * f + i) octet 0 places
-          ∙ had.kept lane i in_lane apart;
+      kept = λ lane i in_lane.
+          wrote.kept (lane * f + i) (lanes-apart lane m f i at n (omega arith) within
+          (λ e. in_lane))
+          ∙ had.kept lane i in_lane;
     })
 
 -- a lane that gave nothing
-pub putting-nothing : (old now : Gathering) (given : List (Option LaneCell)) (j m : ℕ)
+pub putting-nothing : (old now : Gathering) (given : List (Option LaneCell)) (j n m : ℕ)
     → m < length given
-    → get_or given m None ≡ None → IsPutting old now given j m → IsPutting old now given j (m + 1)
-putting-nothing old now given j m lt there had = record {
+    → get_or given m None ≡ None → IsPutting old now given j n m
+    → IsPutting old now given j n (m + 1)
+putting-nothing old now given j n m lt there had = record {
   same_params = had.same_params;
   same_at = had.same_at;
   same_frames = had.same_frames;
@@ -193,21 +246,21 @@ putting-nothing old now given j m lt there had = record {
   kept = had.kept;
 }
 
-pub putting-none : (old : Gathering) (given : List (Option LaneCell)) (j : ℕ)
-    → IsPutting old old given j 0
-putting-none old given j = record {
+pub putting-none : (old : Gathering) (given : List (Option LaneCell)) (j n : ℕ)
+    → IsPutting old old given j n 0
+putting-none old given j n = record {
   same_params = refl;
   same_at = refl;
   same_frames = refl;
   size = refl;
   worst = λ column all. refl;
-  put = λ column all lane below. absurd (omega arith);
-  kept = λ lane i in_lane apart. refl;
+  put = λ column all lane i below in_new. absurd (omega arith);
+  kept = λ lane i in_lane. refl;
 }
 
-pub all-put : (old now : Gathering) (given : List (Option LaneCell)) (j m : ℕ) → m ≡ length given
-    → IsPutting old now given j m → HasPut old now given j
-all-put old now given j m all had = record {
+pub all-put : (old now : Gathering) (given : List (Option LaneCell)) (j n m : ℕ)
+    → m ≡ length given → IsPutting old now given j n m → HasPut old now given j n
+all-put old now given j n m all had = record {
   same_params = had.same_params;
   same_at = had.same_at;
   same_frames = had.same_frames;
@@ -218,31 +271,63 @@ all-put old now given j m all had = record {
       ∙ ap (λ (k : ℕ). fold worse old.mark (map (λ c. c.mark) (take k column))) long
       ∙ ap (λ (cs : List LaneCell). fold worse old.mark (map (λ c. c.mark) cs))
       (take-length column);
-  put = λ column is lane in_lanes.
+  put = λ column is lane i in_lanes in_new.
       let long : m ≡ length column = all ∙ ap length is ∙ length-map column (λ c. Some c) in
-      had.put column is lane (omega arith);
+      had.put column is lane i (omega arith) in_new;
   kept = had.kept;
 }
 
 -- ---- how far a frame is
 
-next-within : (n f : ℕ) → 0 < f → n % f + 1 < f → ((n + 1) % f ≡ n % f + 1)
-    × ((n + 1) / f ≡ n / f)
-next-within n f some lt =
-    let e : n + 1 ≡ n / f * f + (n % f + 1) = omega arith in (
-      ap (λ x. x % f) e ∙ mod-mul-add (n / f) f (n % f + 1) lt,
+next-within : (n f c : ℕ) → n % f + c < f → ((n + c) % f ≡ n % f + c) × ((n + c) / f ≡ n / f)
+next-within n f c lt =
+    let some : 0 < f = omega arith in
+    let e : n + c ≡ n / f * f + (n % f + c) = omega arith in (
+      ap (λ x. x % f) e ∙ mod-mul-add (n / f) f (n % f + c) lt,
       ap (λ x. x / f) e
-          ∙ div-mul-add (n / f) f (n % f + 1) lt,
+          ∙ div-mul-add (n / f) f (n % f + c) lt,
     )
 
-next-whole : (n f : ℕ) → 0 < f → f ≤ n % f + 1 → ((n + 1) % f ≡ 0) × ((n + 1) / f ≡ n / f + 1)
-next-whole n f some h =
-    let lt = mod-lt n some in
-    let e : n + 1 ≡ (n / f + 1) * f + 0 = omega arith in (
+next-whole : (n f c : ℕ) → 0 < f → n % f + c ≡ f
+    → ((n + c) % f ≡ 0) × ((n + c) / f ≡ n / f + 1)
+next-whole n f c some all =
+    let e : n + c ≡ (n / f + 1) * f + 0 = omega arith in (
       ap (λ x. x % f) e ∙ mod-mul-add (n / f + 1) f 0 some,
       ap (λ x. x / f) e
           ∙ div-mul-add (n / f + 1) f 0 some,
     )
+
+-- the parts that are whole with n + c and were not with `before`: those with n, and maybe one more
+whole-parts : {A : Type 0} (g : ℕ → A) → (f before n c : ℕ) → 0 < c → n % f + c ≤ f → before ≤ n
+    → map g (numbers_from (before / f) ((n + c) / f - before / f))
+    ≡ map g (numbers_from (before / f) (n / f - before / f))
+    ++ (if (n + c) % f == 0 then g (n / f) ∷ [] else [])
+unfolding numbers_from
+whole-parts {A} g f before n c some fits below =
+    let some_octets : 0 < f = omega arith in
+    let up : before / f ≤ n / f = div-le before n f some_octets below in
+    let numbers : List ℕ = numbers_from (before / f) (n / f - before / f) in
+    let old : List A = map g numbers in
+    elim (cases_lt (n % f + c) f) [
+      | inl within ↦
+          let next = next-within n f c within in
+          let rest = next.0 in
+          ap (λ (k : ℕ). map g (numbers_from (before / f) (k - before / f))) next.1
+          ∙ sym (append-nil old)
+          ∙ sym (ap (λ (l : List A). old ++ l) (cond-false ((n + c) % f == 0) (g (n / f) ∷ []) []
+          (ne_eqb ((n + c) % f) 0 (λ e. absurd (omega arith)))))
+      | inr whole ↦
+          let next = next-whole n f c some_octets (omega arith) in
+          let number = next.1 in
+          let count : (n + c) / f - before / f ≡ n / f - before / f + 1 = omega arith in
+          let from : before / f + (n / f - before / f) ≡ n / f = omega arith in
+          ap (λ (k : ℕ). map g (numbers_from (before / f) k)) count
+          ∙ ap (map g) (numbers-append (n / f - before / f) 1 (before / f)
+          ∙ ap (λ (x : ℕ). numbers ++ x ∷ []) from)
+          ∙ map_push g numbers (n / f)
+          ∙ sym (ap (λ (l : List A). old ++ l) (cond-true ((n + c) % f == 0) (g (n / f) ∷ []) []
+          (eq-eqb ((n + c) % f) 0 next.0)))
+    ]
 
 nothing-worst : (lanes : ℕ) (cell : ℕ → ℕ → LaneCell) → IsWorst lanes 0 cell Good
 nothing-worst lanes cell = record {
@@ -304,13 +389,13 @@ whole-octets p columns q mark frame size part =
 whole-is : (p : Params) (columns : Columns) (q : ℕ) (mark : Mark) (frame : List ℕ)
     → length frame ≡ p.l * p.f
     → IsPart p p.f (cell_at p columns q) mark frame
-    → whole_of p columns q ≡ record { mark = mark; words = words_of p frame }
+    → whole_of p columns q ≡ record { mark = mark; octets = frame }
 whole-is p columns q mark frame size part =
     let worst : mark_of (cells_of p columns q p.f) ≡ mark =
     sym (worst_unique p.l p.f (cell_at p columns q) mark (mark_of (cells_of p columns q p.f))
     part.worst (mark_of-cells p.l p.f (cell_at p columns q))) in
     ap₂ (λ (m : Mark) (octets : List ℕ). let w : Whole =
-    record { mark = m; words = words_of p octets } in w) worst
+    record { mark = m; octets = octets } in w) worst
     (sym (whole-octets p columns q mark frame size part))
 
 -- ---- what a tick gives
@@ -326,118 +411,113 @@ pub none-gave : (given : List (Option LaneCell)) (lanes : List LaneCell)
 none-gave given [] is = ap (λ g. is_some (get_or g 0 None)) is
 none-gave given (lane ∷ lanes) is = ap (λ g. is_some (get_or g 0 None)) is
 
-one-more : (columns : Columns) (column : List LaneCell)
-    → length (columns ++ column ∷ []) ≡ length columns + 1
-one-more columns column = length-append columns (column ∷ [])
-
--- octet j of each lane was put: `mid` has it
-pub record CanGather (old mid : Gathering) (given : List (Option LaneCell)) (j : ℕ) : Type 0 where
-  pub within : old.at < old.params.f
+-- n octets of each lane from octet j on were put: `mid` has them
+pub record CanGather (old mid : Gathering) (given : List (Option LaneCell)) (j n : ℕ)
+    : Type 0 where
+  pub some : 0 < n
+  pub fits : old.at + n ≤ old.params.f
   pub lanes : length given ≡ old.params.l
-  pub inside : j < octets_per_tick old.params
+  pub inside : j + n ≤ octets_per_tick old.params
   pub size : length mid.octets ≡ old.params.l * old.params.f
-  pub put : HasPut old mid given j
+  pub put : HasPut old mid given j n
 
-pub can-gather : (old mid : Gathering) (given : List (Option LaneCell)) (j : ℕ)
-    → mid.at < mid.params.f → length mid.octets ≡ mid.params.l * mid.params.f
-    → length given ≡ old.params.l → j < octets_per_tick old.params → HasPut old mid given j
-    → CanGather old mid given j
-can-gather old mid given j within size lanes inside put = record {
-  within = (let at = put.same_at in let f = ap (λ p. p.f) put.same_params in omega arith);
-  lanes = lanes;
-  inside = inside;
-  size = rw put.same_params at size;
-  put = put;
-}
-
-part-of-put : (old mid : Gathering) (given : List (Option LaneCell)) (j : ℕ) (columns : Columns)
+part-of-put : (old mid : Gathering) (given : List (Option LaneCell)) (j n : ℕ) (columns : Columns)
     (column : List LaneCell)
-    → CanGather old mid given j → HasGathered old old.params columns
+    → CanGather old mid given j n → HasGathered old old.params columns
     → given ≡ map (λ c. Some c) column
-    → IsPart old.params (old.at + 1)
-    (cell_at old.params (columns ++ octet_column old.params column j ∷ [])
+    → IsPart old.params (old.at + n)
+    (cell_at old.params (columns ++ columns_from old.params column j n)
     (length columns / old.params.f)) mid.mark mid.octets
-part-of-put old mid given j columns column can had all =
-    let within = can.within in
+part-of-put old mid given j n columns column can had all =
     let lanes : length given ≡ length column = ap length all ∙ length-map column (λ c. Some c) in
-    part-more old mid old.params columns given column j (omega arith) (sym lanes ∙ can.lanes)
+    part-more old mid old.params columns given column j n can.some (sym lanes ∙ can.lanes)
     can.inside all had can.put
 
--- the frame is not whole with it
-pub gathers-within : (old mid now : Gathering) (given : List (Option LaneCell)) (j : ℕ)
-    → old.at + 1 < old.params.f → now ≡ record mid { at = mid.at + 1 }
-    → CanGather old mid given j → GathersOn old now given j
-gathers-within old mid now given j lt is can =
+length-with : (p : Params) (columns : Columns) (column : List LaneCell) (j n : ℕ)
+    → length (columns ++ columns_from p column j n) ≡ length columns + n
+length-with p columns column j n =
+    length-append columns (columns_from p column j n)
+    ∙ ap (λ (k : ℕ). length columns + k) (length-columns p column j n)
+
+-- the frame is not whole with them
+pub gathers-within : (old mid now : Gathering) (given : List (Option LaneCell)) (j n : ℕ)
+    → old.at + n < old.params.f → now ≡ record mid { at = mid.at + n }
+    → CanGather old mid given j n → GathersOn old now given j n
+gathers-within old mid now given j n lt is can =
     let p = old.params in
     let same_frames : now.frames ≡ old.frames = ap (λ g. g.frames) is ∙ can.put.same_frames in
     let same : now.params ≡ p = ap (λ g. g.params) is ∙ can.put.same_params in
-    let at : now.at ≡ old.at + 1 = ap (λ g. g.at) is ∙ ap (λ a. a + 1) can.put.same_at in
+    let at : now.at ≡ old.at + n = ap (λ g. g.at) is ∙ ap (λ a. a + n) can.put.same_at in
     record {
       same_params = same;
+      some = can.some;
+      fits = can.fits;
       few = (let few = ap length same_frames in omega arith);
       goes_on = λ columns column had all.
           let count = had.count in
-          let next = next-within (length columns) p.f (omega arith) (omega arith) in
-          let octets = octet_column p column j in
-          let more = one-more columns octets in
-          let part = part-of-put old mid given j columns column can had all in
-          gathered-part now p (columns ++ octets ∷ []) (old.at + 1) (length columns / p.f) same at
+          let next = next-within (length columns) p.f n (omega arith) in
+          let new : Columns = columns_from p column j n in
+          let more = length-with p columns column j n in
+          let part = part-of-put old mid given j n columns column can had all in
+          gathered-part now p (columns ++ new) (old.at + n) (length columns / p.f) same at
           (rw (more, next.0) (omega arith)) (rw more next.1) (rw is part);
       frames = λ columns column had all.
           let count = had.count in
-          let next = next-within (length columns) p.f (omega arith) (omega arith) in
+          let next = next-within (length columns) p.f n (omega arith) in
           let rest = next.0 in
-          let octets = octet_column p column j in
+          let some = can.some in
+          let new : Columns = columns_from p column j n in
           same_frames ∙ sym (append-nil old.frames)
           ∙ ap (λ (fs : List Whole). old.frames ++ fs)
-          (sym (cond-false ((length columns + 1) % p.f == 0)
-          (whole_of p (columns ++ octets ∷ []) (length columns / p.f) ∷ []) []
-          (ne_eqb ((length columns + 1) % p.f) 0 (λ e. absurd (omega arith)))));
+          (sym (cond-false ((length columns + n) % p.f == 0)
+          (whole_of p (columns ++ new) (length columns / p.f) ∷ []) []
+          (ne_eqb ((length columns + n) % p.f) 0 (λ e. absurd (omega arith)))));
     }
 
--- the frame is whole with it
-pub gathers-whole : (old mid now : Gathering) (given : List (Option LaneCell)) (j : ℕ)
-    → old.params.f ≤ old.at + 1 → HasFinished mid now
-    → CanGather old mid given j → GathersOn old now given j
-gathers-whole old mid now given j past is can =
+-- the frame is whole with them
+pub gathers-whole : (old mid now : Gathering) (given : List (Option LaneCell)) (j n : ℕ)
+    → old.params.f ≤ old.at + n → HasFinished mid now
+    → CanGather old mid given j n → GathersOn old now given j n
+gathers-whole old mid now given j n past is can =
     let p = old.params in
-    let within = can.within in
+    let some = can.some in
+    let fits = can.fits in
     let same : now.params ≡ p = is.same_params ∙ can.put.same_params in
-    let all_there : old.at + 1 ≡ p.f = omega arith in
-    let frame : Whole = record { mark = mid.mark; words = words_of p mid.octets } in
+    let all_there : old.at + n ≡ p.f = omega arith in
+    let frame : Whole = record { mark = mid.mark; octets = mid.octets } in
     let frames : now.frames ≡ old.frames ++ frame ∷ [] =
-    is.frames ∙ ap₂ (λ (fs : List Whole) (q : Params).
-    fs ++ (record { mark = mid.mark; words = words_of q mid.octets }) ∷ [])
-    can.put.same_frames can.put.same_params in
+    is.frames ∙ ap (λ (fs : List Whole). fs ++ frame ∷ []) can.put.same_frames in
     record {
       same_params = same;
+      some = can.some;
+      fits = can.fits;
       few = (let few = ap length frames ∙ length-append old.frames (frame ∷ []) in omega arith);
       goes_on = λ columns column had all.
           let count = had.count in
-          let next = next-whole (length columns) p.f (omega arith) (omega arith) in
-          let octets = octet_column p column j in
-          let more = one-more columns octets in
+          let next = next-whole (length columns) p.f n (omega arith) (omega arith) in
+          let new : Columns = columns_from p column j n in
+          let more = length-with p columns column j n in
           let q = length columns / p.f + 1 in
-          gathered-part now p (columns ++ octets ∷ []) 0 q same is.at
+          gathered-part now p (columns ++ new) 0 q same is.at
           (rw (more, next.0) refl) (rw more next.1) (record {
-            worst = rw is.mark (nothing-worst p.l (cell_at p (columns ++ octets ∷ []) q));
+            worst = rw is.mark (nothing-worst p.l (cell_at p (columns ++ new) q));
             octets = λ lane i in_lanes in_lane. absurd (omega arith);
           });
       frames = λ columns column had all.
           let count = had.count in
-          let next = next-whole (length columns) p.f (omega arith) (omega arith) in
-          let octets = octet_column p column j in
+          let next = next-whole (length columns) p.f n (omega arith) (omega arith) in
+          let new : Columns = columns_from p column j n in
           let q = length columns / p.f in
-          let part = rw all_there at (part-of-put old mid given j columns column can had all) in
+          let part = rw all_there at (part-of-put old mid given j n columns column can had all) in
           frames ∙ ap (λ (fs : List Whole). old.frames ++ fs)
           (ap (λ (f : Whole). f ∷ [])
-          (sym (whole-is p (columns ++ octets ∷ []) q mid.mark mid.octets can.size part))
-          ∙ sym (cond-true ((length columns + 1) % p.f == 0)
-          (whole_of p (columns ++ octets ∷ []) q ∷ []) []
-          (eq-eqb ((length columns + 1) % p.f) 0 next.0)));
+          (sym (whole-is p (columns ++ new) q mid.mark mid.octets can.size part))
+          ∙ sym (cond-true ((length columns + n) % p.f == 0)
+          (whole_of p (columns ++ new) q ∷ []) []
+          (eq-eqb ((length columns + n) % p.f) 0 next.0)));
     }
 
--- ---- the octets of a tick, one after another
+-- ---- the octets of a tick, frame by frame
 
 -- j octets of each lane were taken, where each of them gave a cell
 pub record HasTaken (old now : Gathering) (given : List (Option LaneCell)) (j : ℕ) : Type 0 where
@@ -459,12 +539,15 @@ length-firsts p columns column j =
     let all = length-append columns (first_columns p column j) in
     omega arith
 
-firsts-more : (p : Params) (columns : Columns) (column : List LaneCell) (j : ℕ)
-    → (columns ++ first_columns p column j) ++ octet_column p column j ∷ []
-    ≡ columns ++ first_columns p column (j + 1)
-firsts-more p columns column j =
-    append_assoc columns (first_columns p column j) (octet_column p column j ∷ [])
-    ∙ ap (λ (cs : Columns). columns ++ cs) (sym (first-columns-more p column j))
+firsts-more : (p : Params) (columns : Columns) (column : List LaneCell) (j n : ℕ)
+    → (columns ++ first_columns p column j) ++ columns_from p column j n
+    ≡ columns ++ first_columns p column (j + n)
+firsts-more p columns column j n =
+    let last : 0 + j ≡ j = omega arith in
+    append_assoc columns (first_columns p column j) (columns_from p column j n)
+    ∙ ap (λ (cs : Columns). columns ++ cs) (sym (ap (map (octet_column p column))
+    (numbers-append j n 0 ∙ ap (λ (k : ℕ). numbers_from 0 j ++ numbers_from k n) last)
+    ∙ map-append (octet_column p column) (numbers_from 0 j) (numbers_from j n)))
 
 pub taken-none : (old now : Gathering) (given : List (Option LaneCell))
     → now ≡ record old { frames = [] } → HasTaken old now given 0
@@ -495,50 +578,54 @@ wholes-stay : (p : Params) (cs ds : Columns) (from count : ℕ) → 0 < p.f
 wholes-stay p cs ds from count some below =
     map-numbers (whole_of p cs) (whole_of p (cs ++ ds)) count from (λ n inside.
     ap (λ (cells : List LaneCell). let w : Whole =
-    record { mark = mark_of cells; words = words_of p (values_of cells) } in w)
+    record { mark = mark_of cells; octets = values_of cells } in w)
     (sym (cells-stay p cs ds n some (whole-part (length cs) p.f n some (omega arith)))))
 
-pub taken-more : (old mid now : Gathering) (given : List (Option LaneCell)) (j : ℕ)
-    → 0 < old.params.f → HasTaken old mid given j → GathersOn mid now given j
-    → HasTaken old now given (j + 1)
-taken-more old mid now given j some had more =
+pub taken-more : (old mid now : Gathering) (given : List (Option LaneCell)) (j m : ℕ)
+    → 0 < old.params.f → HasTaken old mid given j → GathersOn mid now given j m
+    → HasTaken old now given (j + m)
+taken-more old mid now given j m some had more =
     let p = old.params in
     let f = p.f in
     let before = had.few in
     let few = more.few in
     let same = had.same_params in
+    let octets = more.some in
+    let fits = rw same at more.fits in
     let next = subst (λ (q : Params). (columns : Columns) (column : List LaneCell)
     → HasGathered mid q columns → given ≡ map (λ c. Some c) column
-    → HasGathered now q (columns ++ octet_column q column j ∷ [])) same more.goes_on in
+    → HasGathered now q (columns ++ columns_from q column j m)) same more.goes_on in
     let wholes = subst (λ (q : Params). (columns : Columns) (column : List LaneCell)
     → HasGathered mid q columns → given ≡ map (λ c. Some c) column
-    → now.frames ≡ mid.frames ++ (if (length columns + 1) % q.f == 0 then whole_of q
-    (columns ++ octet_column q column j ∷ []) (length columns / q.f) ∷ [] else [])) same
+    → now.frames ≡ mid.frames ++ (if (length columns + m) % q.f == 0 then whole_of q
+    (columns ++ columns_from q column j m) (length columns / q.f) ∷ [] else [])) same
     more.frames in
     record {
       same_params = more.same_params ∙ same;
       few = omega arith;
       goes_on = λ columns column first all.
-          subst (HasGathered now p) (firsts-more p columns column j)
+          subst (HasGathered now p) (firsts-more p columns column j m)
           (next (columns ++ first_columns p column j) column (had.goes_on columns column first all)
           all);
       frames = λ columns column first all.
           let n : ℕ = length columns in
           let cs : Columns = columns ++ first_columns p column j in
-          let octets : List LaneCell = octet_column p column j in
-          let g : ℕ → Whole = whole_of p (cs ++ octets ∷ []) in
+          let new : Columns = columns_from p column j m in
+          let g : ℕ → Whole = whole_of p (cs ++ new) in
           let long : length cs ≡ n + j = length-firsts p columns column j in
+          let gathered = had.goes_on columns column first all in
+          let at : mid.at ≡ (n + j) % f = gathered.count ∙ ap (λ (k : ℕ). k % f) long in
           let up : n / f ≤ (n + j) / f = div-le n (n + j) f some (omega arith) in
           let number : (n + j) / f ≡ length cs / f = ap (λ (k : ℕ). k / f) (sym long) in
-          wholes cs column (had.goes_on columns column first all) all
+          wholes cs column gathered all
           ∙ ap₂ (λ (fs : List Whole) (k : ℕ).
-          fs ++ (if (k + 1) % f == 0 then g (k / f) ∷ [] else []))
+          fs ++ (if (k + m) % f == 0 then g (k / f) ∷ [] else []))
           (had.frames columns column first all
-          ∙ wholes-stay p cs (octets ∷ []) (n / f) ((n + j) / f - n / f) some (omega arith)) long
-          ∙ sym (whole-parts-more g f n (n + j) some (omega arith))
-          ∙ (let sum : n + j + 1 ≡ n + (j + 1) = omega arith in
+          ∙ wholes-stay p cs new (n / f) ((n + j) / f - n / f) some (omega arith)) long
+          ∙ sym (whole-parts g f n (n + j) m octets (omega arith) (omega arith))
+          ∙ (let sum : n + j + m ≡ n + (j + m) = omega arith in
           ap₂ (λ (ds : Columns) (k : ℕ). map (whole_of p ds) (numbers_from (n / f) (k / f - n / f)))
-          (firsts-more p columns column j) sum);
+          (firsts-more p columns column j m) sum);
     }
 
 -- all octets of the tick

@@ -5,9 +5,8 @@ use Rattle.std.proofs.Math.Nat.{mod-lt}
 use Rattle.std.proofs.lemmas.Bool.{le-leb, lt-leb}
 use Rattle.std.proofs.lemmas.List.{get_or-map, length-map}
 use Rattle.std.proofs.lemmas.List.Elements.{All-map}
-use Rattle.std.proofs.lemmas.List.FromFn.{length-range_with_len}
-use Rattle.std.specs.List.{range_with_len}
 use Rattle.link_params.specs.declared.fields.Params.{Params}
+use Rattle.link_params.specs.declared.cells.LaneCell.{LaneCell}
 use Rattle.link_params.specs.Lanes.{LaneKind}
 use Rattle.link_params.specs.Numbers.{octets_per_tick}
 use Rattle.sample_map.specs.Frames.{words_of}
@@ -21,12 +20,13 @@ use Rattle.link_model.proofs.KindFacts.{lead}
 use Rattle.link_model.proofs.LaneHistory.{HasHunt, lane-run-next}
 use Rattle.link_model.proofs.NumberLists.{get_or-numbers, length-numbers, map-numbers}
 use Rattle.link_model.proofs.WholeFrames.{delivered-by-place}
-use Rattle.link_model.specs.kept.Before.{Columns, delivered_at, octet_columns}
+use Rattle.link_model.specs.kept.Before.{Columns, cell_at, cells_of, delivered_at, octet_columns}
 use Rattle.link_model.specs.Gives.{gives_in}
 use Rattle.link_model.specs.Hunts.{session}
 use Rattle.link_model.specs.Kinds.{kind_of, moment_of}
 use Rattle.link_model.specs.kept.LaneRuns.{LaneRun, lane_run, lane_stepped}
 use Rattle.link_model.specs.Moments.{Delivered, History}
+use Rattle.link_run.proofs.Marks.{length-cells}
 use Rattle.link_run.proofs.RunFacts.{IsRunOf}
 use Rattle.link_run.specs.kept.Gathered.{FramesAre, Gathering, HasGathered, Whole, delivered_of, no_frame, whole_of}
 use Rattle.link_run.specs.kept.LinkStates.{columns_left, columns_of}
@@ -132,7 +132,7 @@ frames-leave p end before columns frames begun some below are count =
     let left : ℕ → ℕ → ℕ → Whole → Delivered = λ i rest many w. record {
       left = end + i * p.f - (rest + many * p.f);
       mark = w.mark;
-      words = w.words;
+      words = words_of p w.octets;
     } in
     delivered-by-place p end before columns some below
     ∙ map-numbers (λ i. left i (length columns % p.f) n (whole_of p columns (from + i)))
@@ -166,19 +166,23 @@ pub delivered-nothing : (s : Plan) (h : History) (begun : ℕ) → (moment_of s 
 unfolding numbers_from
 delivered-nothing s h begun none = none
 
-words-size : (p : Params) (octets : List ℕ) → length (words_of p octets) ≡ p.m * p.s
-unfolding words_of
-words-size p octets = length-map (range_with_len 0 (p.m * p.s)) _ ∙ length-range_with_len 0 (p.m * p.s)
+octets-size : (p : Params) (columns : Columns) (n : ℕ)
+    → length ((whole_of p columns n).octets) ≡ p.l * p.f
+octets-size p columns n =
+    let cells : List LaneCell = cells_of p columns n p.f in
+    length-map cells (λ c. c.value)
+    ∙ length-cells (λ i. cell_at p columns n (i / p.f) (i % p.f)) (p.l * p.f)
 
--- the frames have M·S words each
-pub have-words : (p : Params) (before : ℕ) (columns : Columns) (frames : List Whole)
+-- the frames have L·F octets each
+pub have-octets : (p : Params) (before : ℕ) (columns : Columns) (frames : List Whole)
     → FramesAre frames p before columns
-    → All (λ (f : Whole). length f.words ≡ p.m * p.s) frames
-have-words p before columns frames are =
-    subst (All (λ (f : Whole). length f.words ≡ p.m * p.s)) (sym are)
-    (All-map (λ (f : Whole). length f.words ≡ p.m * p.s) (whole_of p columns)
-    (numbers_from (before / p.f) (length columns / p.f - before / p.f))
-    (λ k d inside. words-size p _))
+    → All (λ (f : Whole). length f.octets ≡ p.l * p.f) frames
+have-octets p before columns frames are =
+    let numbers : List ℕ =
+    numbers_from (before / p.f) (length columns / p.f - before / p.f) in
+    subst (All (λ (f : Whole). length f.octets ≡ p.l * p.f)) (sym are)
+    (All-map (λ (f : Whole). length f.octets ≡ p.l * p.f) (whole_of p columns) numbers
+    (λ k d inside. octets-size p columns (get_or numbers k d)))
 
 -- a frame that is gathered, with other frames that became whole
 pub still-gathered : (now : Gathering) (p : Params) (columns : Columns) (frames : List Whole)
@@ -191,8 +195,8 @@ still-gathered now p columns frames h = record {
   octets = h.octets;
 }
 
-pub no-words : (p : Params) → All (λ (f : Whole). length f.words ≡ p.m * p.s) []
-no-words p = λ k d inside. absurd (omega arith)
+pub no-octets : (p : Params) → All (λ (f : Whole). length f.octets ≡ p.l * p.f) []
+no-octets p = λ k d inside. absurd (omega arith)
 
 pub begun-few : (s : Plan) (h : History) (now : Gathering) (columns : Columns) → IsRunOf s h
     → HasGathered now s.link.params columns → now.at ≤ 256

@@ -1,10 +1,11 @@
--- What lanes are handed in a tick, octet by octet.
-use Rattle.std.proofs.Common.{◌≡◌, ℕ, zero, suc, ◌+◌, ◌-◌, ◌*◌, ◌%◌, ◌^◌, ◌==◌, ◌<◌, ◌≤◌, Bool, if◌then◌else◌, List, [], ◌∷◌, ◌++◌, All, map, fold, filter, replicate, length, get_or, set, slice_index, slice_index_or, Some, None, inl, inr, refl, sym, ap, ap₂, subst, ◌∙◌, arith}
-use Rattle.std.proofs.Math.Nat.{mul-le-mul_right, pow-le-pow_right, pow-suc}
-use Rattle.std.proofs.lemmas.Bool.{cases_Bool, cases_lt}
-use Rattle.std.proofs.lemmas.List.{ext_get_or, get_or-map, get_or-set_other, get_or-set_same, get_or-replicate, length-map, length-replicate, length-set}
-use Rattle.std.proofs.lemmas.List.Elements.{All-from_get_or, All-get_or}
+-- What lanes are handed in a tick, octet by octet and frame by frame.
+use Rattle.std.proofs.Common.{◌≡◌, ℕ, zero, suc, ◌+◌, ◌-◌, ◌*◌, ◌/◌, ◌%◌, ◌^◌, ◌==◌, ◌<◌, ◌≤◌, Bool, if◌then◌else◌, List, [], ◌∷◌, ◌++◌, All, map, fold, filter, replicate, length, get_or, slice_index, Some, None, inl, inr, refl, sym, ap, ap₂, subst, ◌∙◌, arith}
+use Rattle.std.proofs.Math.Nat.{add-mul, mod-eq_of_lt, mul_assoc, mul_comm, mul-add-mod_self_right, mul-le-mul_right, mul-mod_left, pow-le-pow_right, suc-mul}
+use Rattle.std.proofs.lemmas.Bool.{cases_Bool, ne_eqb}
+use Rattle.std.proofs.lemmas.List.{get_or-map, get_or-replicate, length-replicate}
+use Rattle.std.proofs.lemmas.List.Elements.{All-from_get_or}
 use Rattle.std.proofs.lemmas.List.Sums.{fold_push}
+use Rattle.std.proofs.lemmas.Nat.{div-add-mod', pow-add}
 use Rattle.link_params.specs.declared.fields.Params.{Params}
 use Rattle.link_params.specs.Numbers.{octets_per_tick}
 use Rattle.sample_map.specs.Frames.{frame_of}
@@ -12,101 +13,9 @@ use Rattle.scenario.specs.declared.scenario_type.Scenario.{Scenario}
 use Rattle.scenario.specs.Plans.{Plan, numbers_from, plan_of, source_frame}
 use Rattle.link_model.specs.Sends.{beginnings, begins_frame, handed_to, octet_of}
 use Rattle.link_model.proofs.NumberLists.{get_or-numbers, length-numbers, map-numbers, numbers-more}
-use Rattle.link_run.specs.kept.Seen.{Fed, HasFed, with_octet}
-
--- ---- one octet more for each lane
-
--- octet `at` of a lane stands in the frame
-pub in-frame : (l f lane at : ℕ) → lane < l → at < f → lane * f + at < l * f
-in-frame l f lane at below inside =
-    let m : suc lane * f ≤ l * f = mul-le-mul_right f below in
-    omega arith
-
--- the first `lane` of these numbers have an octet more
-pub record Adds (size at : ℕ) (octets before now : List ℕ) (lane : ℕ) : Type 0 where
-  pub long : length now ≡ length before
-  pub done : (k : ℕ) → k < lane → slice_index now k
-      ≡ slice_index before k * 256 + slice_index octets (k * size + at)
-  pub rest : (k : ℕ) → lane ≤ k → slice_index now k ≡ slice_index before k
-
-pub adds-none : (size at : ℕ) (octets before : List ℕ) → Adds size at octets before before 0
-adds-none size at octets before = record {
-  long = refl;
-  done = λ k below. absurd (omega arith);
-  rest = λ k above. refl;
-}
-
-pub adds-more : (size at : ℕ) (octets before now : List ℕ) (lane o : ℕ)
-    → Adds size at octets before now lane → lane < length before
-    → o ≡ slice_index octets (lane * size + at)
-    → Adds size at octets before (set now lane (slice_index_or now lane 0 * 256 + o)) (lane + 1)
-adds-more size at octets before now lane o h inside is =
-    let many = h.long in
-    let next : ℕ = get_or now lane 0 * 256 + o in
-    record {
-      long = length-set now lane next ∙ h.long;
-      done = λ k below. elim (cases_lt k lane) [
-        | inl low ↦ get_or-set_other now lane k next 0 (λ e. omega arith) ∙ h.done k low
-        | inr high ↦
-            let e : k ≡ lane = omega arith in
-            rw e (get_or-set_same now lane next 0 (omega arith)
-            ∙ ap₂ (λ (a b : ℕ). a * 256 + b) (h.rest lane (omega arith)) is)
-      ];
-      rest = λ k above. get_or-set_other now lane k next 0 (λ e. omega arith)
-          ∙ h.rest k (omega arith);
-    }
-
-pub below-more : (before now : List ℕ) (lane o m : ℕ) → length now ≡ length before
-    → get_or now lane 0 ≡ get_or before lane 0 → lane < length before → o < 256
-    → All (λ v. v < m) before → ((k : ℕ) → k < lane → get_or now k 0 < m * 256)
-    → (k : ℕ) → k < lane + 1
-    → get_or (set now lane (get_or now lane 0 * 256 + o)) k 0 < m * 256
-below-more before now lane o m long same inside small all h k below =
-    let next : ℕ = get_or now lane 0 * 256 + o in
-    elim (cases_lt k lane) [
-      | inl low ↦ rw (get_or-set_other now lane k next 0 (λ e. omega arith)) (h k low)
-      | inr high ↦
-          let e : k ≡ lane = omega arith in
-          let was = All-get_or (λ v. v < m) before lane 0 inside all in
-          rw (e, get_or-set_same now lane next 0 (omega arith)) (omega arith)
-    ]
-
--- all have one
-pub adds-all : (size at n : ℕ) (octets before now : List ℕ) (lane : ℕ)
-    → Adds size at octets before now lane → length before ≤ lane → length before ≡ n
-    → now ≡ map (λ lane. get_or before lane 0 * 256 + slice_index octets (lane * size + at))
-    (numbers_from 0 n)
-adds-all size at n octets before now lane h all long =
-    let many = h.long in
-    let f : ℕ → ℕ = λ lane. get_or before lane 0 * 256 + slice_index octets (lane * size + at) in
-    let numbers = length-numbers n 0 in
-    let mapped = length-map (numbers_from 0 n) f in
-    ext_get_or 0 now (map f (numbers_from 0 n)) (omega arith) (λ i below.
-    let same : 0 + i ≡ i = omega arith in
-    h.done i (omega arith)
-    ∙ sym (get_or-map f (numbers_from 0 n) i 0 0 (omega arith)
-    ∙ ap f (get_or-numbers n i 0 0 (omega arith) ∙ same)))
-
--- ---- the octets of a tick
-
--- how many frames begin with the first j octets of a tick at this place
-abbrev pub begun_in : Params → ℕ → ℕ → ℕ
-begun_in p x j = length (filter (begins_frame p x) (numbers_from 0 j))
-
--- the first j octets of a lane, as one number
-abbrev pub octets_to : Plan → ℕ → ℕ → ℕ → ℕ → ℕ
-octets_to s n x j lane = fold (λ v i. 256 * v + octet_of s n x lane i) 0 (numbers_from 0 j)
-
--- the first j octets of the tick were handed
-pub record Hands (scenario : Scenario) (old now : Fed) (x j : ℕ) (handed : List ℕ) : Type 0 where
-  pub params : now.params ≡ old.params
-  pub count : now.begun ≤ old.begun + j
-  pub lanes : length handed ≡ old.params.l
-  pub small : All (λ v. v < 256 ^ j) handed
-  pub fed : (s : Plan) (n : ℕ) → plan_of scenario ≡ Some s → HasFed old s n
-      → HasFed now s (n + begun_in s.link.params x j)
-  pub handed_is : (s : Plan) (n : ℕ) → plan_of scenario ≡ Some s → HasFed old s n
-      → handed ≡ map (octets_to s n x j) (numbers_from 0 s.link.params.l)
+use Rattle.link_run.specs.kept.Handed.{Hands, begun_in, octets_to, with_octet, with_octets}
+use Rattle.link_run.specs.kept.Seen.{Fed, HasFed}
+use Rattle.link_run.proofs.FrameOctets.{length-with_octet}
 
 filter-push : (f : ℕ → Bool) (xs : List ℕ) (x : ℕ)
     → length (filter f (xs ++ x ∷ [])) ≡ length (filter f xs) + (if f x then 1 else 0)
@@ -149,6 +58,9 @@ octet-is s n x lane j =
 added : (n b o e m : ℕ) → o ≡ e → m ≡ b + e → n + b + o ≡ n + m
 added n b o e m same is = omega arith
 
+mod-of : (q f r : ℕ) → r < f → (q * f + r) % f ≡ r
+mod-of q f r below = mul-add-mod_self_right q f r ∙ mod-eq_of_lt below
+
 -- the next octet
 pub hands-more : (scenario : Scenario) (old now later : Fed) (x j at : ℕ) (handed next : List ℕ)
     → Hands scenario old now x j handed
@@ -156,12 +68,11 @@ pub hands-more : (scenario : Scenario) (old now later : Fed) (x j at : ℕ) (han
     → at ≡ (octets_per_tick old.params * x + j) % old.params.f
     → later.params ≡ now.params → later.begun ≤ now.begun + 1
     → length next ≡ length handed
-    → ((m : ℕ) → All (λ v. v < m) handed → All (λ v. v < m * 256) next)
-    → next ≡ with_octet later at handed
+    → next ≡ with_octet later.octets later.params.f at handed
     → ((s : Plan) (n : ℕ) → plan_of scenario ≡ Some s → HasFed now s n
     → HasFed later s (n + (if at == 0 then 1 else 0)))
     → Hands scenario old later x (j + 1) next
-hands-more scenario old now later x j at handed next h shape at_is same count long small next_is fed =
+hands-more scenario old now later x j at handed next h shape at_is same count long next_is fed =
     let few = h.count in
     let wide = h.lanes in
     subst (λ k. Hands scenario old later x k next) (let one : suc j ≡ j + 1 = omega arith in one) (
@@ -183,13 +94,9 @@ hands-more scenario old now later x j at handed next h shape at_is same count lo
       params = same ∙ h.params;
       count = omega arith;
       lanes = long ∙ wide;
-      small = λ k d inside. let below = small (256 ^ j) h.small k d inside in
-          let power = pow-suc 256 j in omega arith;
       fed = fed_now;
       handed_is = λ s n is was.
           let f = fed_now s n is was in
-          let lanes_are : later.params.l ≡ s.link.params.l =
-          ap (λ (q : Params). q.l) (same ∙ h.params ∙ sym (shape s is)) in
           let sizes : later.params.f ≡ s.link.params.f =
           ap (λ (q : Params). q.f) (same ∙ h.params ∙ sym (shape s is)) in
           let before = h.handed_is s n is was in
@@ -198,7 +105,7 @@ hands-more scenario old now later x j at handed next h shape at_is same count lo
           next_is
           ∙ ap (λ (l : ℕ). map
           (λ lane. get_or handed lane 0 * 256 + slice_index later.octets (lane * later.params.f + at))
-          (numbers_from 0 l)) lanes_are
+          (numbers_from 0 l)) (wide ∙ sym (ap (λ (q : Params). q.l) (shape s is)))
           ∙ map-numbers
           (λ lane. get_or handed lane 0 * 256 + slice_index later.octets (lane * later.params.f + at))
           (octets_to s n x (suc j)) s.link.params.l 0 (λ lane below.
@@ -219,6 +126,102 @@ hands-more scenario old now later x j at handed next h shape at_is same count lo
           let turned : get_or handed lane 0 * 256 ≡ 256 * octets_to s n x j lane = omega arith in
           ap₂ (λ (a b : ℕ). a + b) turned octet ∙ sym (octets-more s n x j lane));
     })
+
+-- the octets that follow in a frame
+hands-on : (scenario : Scenario) (old now : Fed) (x j at n q : ℕ) (handed : List ℕ)
+    → Hands scenario old now x j handed
+    → ((s : Plan) → plan_of scenario ≡ Some s → s.link.params ≡ old.params)
+    → suc at + n ≤ old.params.f
+    → octets_per_tick old.params * x + j ≡ q * old.params.f + suc at
+    → Hands scenario old now x (j + n) (with_octets now.octets now.params.f (suc at) n handed)
+hands-on scenario old now x j at zero q handed h shape inside is =
+    let none : j ≡ j + 0 = omega arith in
+    subst (λ k. Hands scenario old now x k handed) none h
+hands-on scenario old now x j at (suc n) q handed h shape inside is =
+    let next : List ℕ = with_octet now.octets now.params.f (suc at) handed in
+    let place : suc at ≡ (octets_per_tick old.params * x + j) % old.params.f =
+    sym (ap (λ (k : ℕ). k % old.params.f) is ∙ mod-of q old.params.f (suc at) (omega arith)) in
+    let one : Hands scenario old now x (j + 1) next =
+    hands-more scenario old now now x j (suc at) handed next h shape place refl (omega arith)
+    (length-with_octet now.octets now.params.f (suc at) handed) refl
+    (λ s k plan was. let none : k ≡ k + 0 = omega arith in
+    subst (HasFed now s)
+    (none ∙ sym (ap (λ (b : Bool). k + (if b then 1 else 0))
+    (ne_eqb (suc at) 0 (λ e. omega arith))))
+    was) in
+    let all : j + 1 + n ≡ j + suc n = omega arith in
+    subst (λ k. Hands scenario old now x k
+    (with_octets now.octets now.params.f (suc at) (suc n) handed)) all
+    (hands-on scenario old now x (j + 1) (suc at) n q next one shape (omega arith) (omega arith))
+
+-- the next octets, all of one frame
+pub hands-run : (scenario : Scenario) (old now later : Fed) (x j at n : ℕ) (handed next : List ℕ)
+    → Hands scenario old now x j handed
+    → ((s : Plan) → plan_of scenario ≡ Some s → s.link.params ≡ old.params)
+    → at ≡ (octets_per_tick old.params * x + j) % old.params.f
+    → 1 ≤ n → at + n ≤ old.params.f
+    → later.params ≡ now.params → later.begun ≤ now.begun + 1
+    → next ≡ with_octets later.octets later.params.f at n handed
+    → ((s : Plan) (n : ℕ) → plan_of scenario ≡ Some s → HasFed now s n
+    → HasFed later s (n + (if at == 0 then 1 else 0)))
+    → Hands scenario old later x (j + n) next
+hands-run scenario old now later x j at zero handed next h shape place some in_frame same count is
+    fed =
+    absurd (omega arith)
+hands-run scenario old now later x j at (suc n) handed next h shape place some in_frame same count is
+    fed =
+    let first : List ℕ = with_octet later.octets later.params.f at handed in
+    let t : ℕ = octets_per_tick old.params * x + j in
+    let whole : t / old.params.f * old.params.f + t % old.params.f ≡ t =
+    div-add-mod' t old.params.f in
+    let one : Hands scenario old later x (j + 1) first =
+    hands-more scenario old now later x j at handed first h shape place same count
+    (length-with_octet later.octets later.params.f at handed) refl fed in
+    let all : j + 1 + n ≡ j + suc n = omega arith in
+    let on = hands-on scenario old later x (j + 1) at n (t / old.params.f) first one shape
+    (omega arith) (omega arith) in
+    subst (λ (l : List ℕ). Hands scenario old later x (j + suc n) l) (sym is)
+    (subst (λ k. Hands scenario old later x k
+    (with_octets later.octets later.params.f at (suc n) handed)) all on)
+
+-- where the first octet stands in its frame
+pub first-place : (p q : Params) (x size per_tick : ℕ) → size ≡ p.f → per_tick ≡ octets_per_tick p
+    → p ≡ q → per_tick * x % size ≡ (octets_per_tick q * x + 0) % q.f
+first-place p q x size per_tick size_is tick_is same =
+    let none : octets_per_tick p * x ≡ octets_per_tick p * x + 0 = omega arith in
+    ap₂ (λ (a b : ℕ). a % b) (ap (λ (k : ℕ). k * x) tick_is ∙ none) size_is
+    ∙ ap (λ (r : Params). (octets_per_tick r * x + 0) % r.f) same
+
+-- with whole frames in each tick one begins behind each
+pub whole-place : (frames f o x k : ℕ) → frames * f ≡ o → 0 ≡ (o * x + k * f) % f
+whole-place frames f o x k whole =
+    let turned : o * x ≡ frames * x * f = ap (λ (n : ℕ). n * x) (sym whole)
+    ∙ mul_assoc frames f x ∙ ap (λ (n : ℕ). frames * n) (mul_comm f x)
+    ∙ sym (mul_assoc frames x f) in
+    let sum : (frames * x + k) * f ≡ o * x + k * f = add-mul (frames * x) k f
+    ∙ ap (λ (n : ℕ). n + k * f) (sym turned) in
+    sym (mul-mod_left (frames * x + k) f) ∙ ap (λ (n : ℕ). n % f) sum
+
+-- another one of them is within the tick
+pub frame-within : (k frames f size o : ℕ) → k < frames → frames * f ≡ o → size ≡ f
+    → k * size + size ≤ o
+frame-within k frames f size o more whole is =
+    let within : suc k * f ≤ frames * f = mul-le-mul_right f more in
+    let next = suc-mul k f in
+    rw is (omega arith)
+
+pub next-frame : (k f : ℕ) → k * f + f ≡ (k + 1) * f
+next-frame k f =
+    let one : suc k ≡ k + 1 = omega arith in
+    sym (suc-mul k f) ∙ ap (λ (n : ℕ). n * f) one
+
+-- behind the last octet of a frame another one begins
+pub frame-ends : (t n f at : ℕ) → 0 < f → at ≡ t % f → at + n ≡ f → 0 ≡ (t + n) % f
+frame-ends t n f at some is end =
+    let whole : t / f * f + t % f ≡ t = div-add-mod' t f in
+    let more = suc-mul (t / f) f in
+    let sum : suc (t / f) * f ≡ t + n = omega arith in
+    sym (mul-mod_left (suc (t / f)) f) ∙ ap (λ (k : ℕ). k % f) sum
 
 zeros-are : (f : ℕ → ℕ) (n a : ℕ) → ((k : ℕ) → f k ≡ 0) → replicate n 0 ≡ map f (numbers_from a n)
 unfolding numbers_from
@@ -244,7 +247,6 @@ hands-none scenario old x n shape is = record {
   params = refl;
   count = omega arith;
   lanes = length-replicate n 0 ∙ is;
-  small = All-from_get_or (λ v. v < 256 ^ 0) (replicate n 0) 0 (λ i below. zero-at n i below);
   fed = λ s k plan was. let none : k ≡ k + 0 = omega arith in subst (HasFed old s) none was;
   handed_is = λ s k plan was.
       ap (λ (m : ℕ). replicate m 0) (is ∙ sym (ap (λ (q : Params). q.l) (shape s plan)))
@@ -281,12 +283,24 @@ unfolding handed_to
 handed-none s n l is = ap (λ (m : ℕ). replicate m 0) is
     ∙ zeros-are (handed_to s n None) s.link.params.l 0 (λ lane. refl)
 
--- fewer than eight octets are below 2 ^ 56
-pub small-octets : (j : ℕ) (handed : List ℕ) → j < 8 → All (λ v. v < 256 ^ j) handed
-    → All (λ v. v < 72057594037927936) handed
-small-octets j handed few small k d inside =
+-- no octet was handed: each number is below 1
+pub small-none : (n : ℕ) → All (λ v. v < 256 ^ 0) (replicate n 0)
+small-none n = All-from_get_or (λ v. v < 256 ^ 0) (zeros n) 0 (λ i below. zero-at n i below)
+
+-- there is room for n octets more
+pub small-room : (j n : ℕ) (handed : List ℕ) → j + n ≤ 8 → All (λ v. v < 256 ^ j) handed
+    → All (λ v. v < 256 ^ (8 - n)) handed
+small-room j n handed few small k d inside =
     let below = small k d inside in
     let some : 0 < 256 = omega arith in
-    let few_more : j ≤ 7 = omega arith in
-    let most : 256 ^ j ≤ 256 ^ 7 = pow-le-pow_right some few_more in
+    let room : j ≤ 8 - n = omega arith in
+    let most : 256 ^ j ≤ 256 ^ (8 - n) = pow-le-pow_right some room in
+    omega arith
+
+-- n octets more
+pub small-more : (j n : ℕ) (handed : List ℕ) → All (λ v. v < 256 ^ j * 256 ^ n) handed
+    → All (λ v. v < 256 ^ (j + n)) handed
+small-more j n handed small k d inside =
+    let below = small k d inside in
+    let power = pow-add 256 j n in
     omega arith

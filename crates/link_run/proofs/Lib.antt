@@ -3,6 +3,7 @@ pub mod OrderLemmas
 pub mod BlockOrders
 pub mod SyncLemmas
 pub mod FeedLemmas
+pub mod FrameOctets
 pub mod Handing
 pub mod PlanFacts
 pub mod LinkFacts

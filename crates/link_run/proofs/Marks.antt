@@ -1,5 +1,5 @@
 -- The worst of some marks, by what is not better than each of them.
-use Rattle.std.proofs.Common.{◌≡◌, ℕ, zero, suc, ◌+◌, ◌*◌, ◌/◌, ◌%◌, ◌<◌, ◌≤◌, List, [], ◌∷◌, map, length, get_or, refl, ap, ◌∙◌, arith, inl, inr}
+use Rattle.std.proofs.Common.{◌≡◌, ℕ, zero, suc, ◌+◌, ◌-◌, ◌*◌, ◌/◌, ◌%◌, ◌<◌, ◌≤◌, List, [], ◌∷◌, map, length, get_or, refl, ap, ◌∙◌, arith, inl, inr}
 use Rattle.std.proofs.lemmas.List.{get_or-map, length-map}
 use Rattle.std.proofs.Math.Nat.{mod-lt, mul-zero, mul-le-mul_right}
 use Rattle.std.specs.Prelude.{fold}
@@ -162,23 +162,31 @@ worst_same lanes m cell other w same is = record {
       (every lane j in_lanes in_lane));
 }
 
--- a column more
-pub worst_more : (lanes m : ℕ) (cell : ℕ → ℕ → LaneCell) (w : Mark) (column : List LaneCell)
-    → length column ≡ lanes
-    → ((lane : ℕ) → cell lane m ≡ get_or column lane no_cell)
-    → IsWorst lanes m cell w → IsWorst lanes (m + 1) cell (fold worse w (map (λ c. c.mark) column))
-worst_more lanes m cell w column size last is =
+-- n columns more, with the marks of this one
+pub worst_more : (lanes m n : ℕ) (cell : ℕ → ℕ → LaneCell) (w : Mark) (column : List LaneCell)
+    → 0 < n → length column ≡ lanes
+    → ((lane i : ℕ) → lane < lanes → i < n
+    → (cell lane (m + i)).mark ≡ (get_or column lane no_cell).mark)
+    → IsWorst lanes m cell w → IsWorst lanes (m + n) cell (fold worse w (map (λ c. c.mark) column))
+worst_more lanes m n cell w column some size last is =
     let f = is_fold column w in
     let first = f.first in
     record {
       each = λ lane j in_lanes in_lane. elim (cases_lt j m) [
         | inl below ↦ (let old = is.each lane j in_lanes below in omega arith)
         | inr past ↦
-            let e : j ≡ m = omega arith in
-            rw (e, last lane) (f.each lane (omega arith))
+            let i = j - m in
+            let e : j ≡ m + i = omega arith in
+            let mark = ap (λ (k : ℕ). (cell lane k).mark) e ∙ last lane i in_lanes (omega arith) in
+            let same = ap rank mark in
+            let here = f.each lane (omega arith) in
+            omega arith
       ];
       least =
           λ b every. f.least b
           (is.least b (λ lane j in_lanes in_lane. every lane j in_lanes (omega arith)))
-          (λ i lt. rw (← last i) (every i m (omega arith) (omega arith)));
+          (λ i lt.
+          let same = ap rank (last i 0 (omega arith) some) in
+          let here = every i (m + 0) (omega arith) (omega arith) in
+          omega arith);
     }

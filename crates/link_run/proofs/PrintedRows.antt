@@ -4,6 +4,7 @@ use Rattle.std.proofs.lemmas.List.{flat_map_more}
 use Rattle.link_params.specs.Links.{Link}
 use Rattle.scenario.specs.declared.scenario_type.Scenario.{Scenario}
 use Rattle.scenario.specs.Plans.{Plan, plan_with}
+use Rattle.scenario.specs.declared.report_row.Totals.{Totals}
 use Rattle.scenario.specs.ReportLines.{line_of}
 use Rattle.link_model.specs.Report.{Printed, lines}
 use Rattle.link_run.specs.kept.Printing.{HasPrinted, Printing}
@@ -30,6 +31,14 @@ printed-more old now s rows x text line had same is room more = record {
       ∙ sym (lines_more s rows x);
   room = (let before = had.room in omega arith);
 }
+
+-- other counts change no row
+pub still-printed : (old now : Printing) (n : Totals) (s : Plan) (rows : List Printed)
+    → now ≡ record old { totals = n } → HasPrinted old s rows → HasPrinted now s rows
+still-printed old now n s rows same had = rw same (record {
+  lines_of_rows = had.lines_of_rows;
+  room = had.room;
+})
 
 -- the link of a plan
 pub link_of_plan : (o : Option Link) (s : Scenario) (plan : Plan) → plan_with o s ≡ Some plan

@@ -1,8 +1,10 @@
 -- The rows of a tick, kind by kind, and what they add to the counts.
-use Rattle.std.proofs.Common.{◌≡◌, ℕ, suc, ◌+◌, ◌-◌, ◌*◌, ◌≤◌, Bool, true, false, if◌then◌else◌, List, [], ◌∷◌, ◌++◌, length, map, take, filter, get_or, slice_get, Option, Some, None, refl, sym, ap, ap₂, ◌∙◌, append_assoc, append-nil, length-append, arith, count_by}
+use Rattle.std.proofs.Common.{◌≡◌, ℕ, zero, suc, ◌+◌, ◌-◌, ◌*◌, ◌/◌, ◌%◌, ◌≤◌, ◌<◌, ◌≢◌, Bool, true, false, if◌then◌else◌, List, [], ◌∷◌, ◌++◌, length, map, take, filter, get_or, slice_get, Option, Some, None, refl, sym, ap, ap₂, ◌∙◌, append_assoc, append-nil, length-append, arith, count_by}
 use Rattle.std.proofs.lemmas.List.{length-map, map-append, map_push, take_more}
 use Rattle.std.proofs.lemmas.List.Elements.{filter-append}
 use Rattle.std.proofs.lemmas.List.Sums.{count_by-le-length, fold-append, length-filter}
+use Rattle.std.proofs.lemmas.Bool.{ne_eqb}
+use Rattle.std.proofs.lemmas.Nat.{mod-mul-add}
 use Rattle.std.proofs.lemmas.Simd.{map-map}
 use Rattle.std.proofs.lemmas.Option.{get_or_from_slice_get, slice_get_within}
 use Rattle.link_params.specs.declared.alarms.Alarm.{Alarm}
@@ -11,6 +13,7 @@ use Rattle.link_params.specs.declared.cells.Mark.{Mark}
 use Rattle.link_params.specs.declared.fields.Params.{Params}
 use Rattle.link_params.specs.Laws.{is_b}
 use Rattle.link_params.specs.Numbers.{octets_per_tick}
+use Rattle.sample_map.specs.Frames.{words_of}
 use Rattle.scenario.specs.declared.report_row.Row.TheVariants as row
 use Rattle.scenario.specs.declared.report_row.Totals.{Totals}
 use Rattle.scenario.specs.Plans.{Plan, numbers_from, source_frame}
@@ -97,6 +100,50 @@ entered-not p t place n is =
     ap (map (λ j. octets_per_tick p * t + j)) (firsts p place n
     ∙ ap (λ (b : Bool). old ++ (if b then n ∷ [] else [])) is ∙ append-nil old)
 
+-- where the next octets of the tick begin no frame
+entered-skip : (p : Params) (t place n d : ℕ)
+    → ((k : ℕ) → n ≤ k → k < n + d → begins_frame p place k ≡ false)
+    → entered_first p t place (n + d) ≡ entered_first p t place n
+entered-skip p t place n zero none =
+    let same : n + 0 ≡ n = omega arith in ap (entered_first p t place) same
+entered-skip p t place n (suc d) none =
+    let same : n + suc d ≡ n + d + 1 = omega arith in
+    ap (entered_first p t place) same
+    ∙ entered-not p t place (n + d) (none (n + d) (omega arith) (omega arith))
+    ∙ entered-skip p t place n d (λ k low high. none k low (omega arith))
+
+-- an octet less than a frame before one that begins a frame begins none
+before-frame : (q f x k : ℕ) → q * f ≡ x → k < x → x < k + f → k % f ≢ 0
+before-frame zero f x k is below near = absurd (omega arith)
+before-frame (suc m) f x k is below near = λ none.
+    let split : suc m * f ≡ m * f + f = omega arith in
+    let part : m * f + (k - m * f) ≡ k = omega arith in
+    let rest = mod-mul-add m f (k - m * f) (omega arith) in
+    let same = ap (λ (n : ℕ). n % f) part in
+    absurd (omega arith)
+
+begins-not : (p : Params) (place j k : ℕ) → (octets_per_tick p * place + j) % p.f ≡ 0
+    → k < j → j < k + p.f → begins_frame p place k ≡ false
+begins-not p place j k at below near =
+    let first = octets_per_tick p * place in
+    ne_eqb ((first + k) % p.f) 0 (before-frame ((first + j) / p.f) p.f (first + j) (first + k)
+    (omega arith) (omega arith) (omega arith))
+
+-- so none of these octets begins a frame
+pub entered-to : (p : Params) (t place n j : ℕ) → (octets_per_tick p * place + j) % p.f ≡ 0
+    → n ≤ j → j < n + p.f → entered_first p t place j ≡ entered_first p t place n
+entered-to p t place n j at from near =
+    let long : n + (j - n) ≡ j = omega arith in
+    ap (entered_first p t place) (sym long)
+    ∙ entered-skip p t place n (j - n)
+    (λ k low high. begins-not p place j k at (omega arith) (omega arith))
+
+pub frame-after : (p : Params) (x j : ℕ) → 0 < p.f → (x + j) % p.f ≡ 0
+    → (x + (j + p.f)) % p.f ≡ 0
+frame-after p x j some at =
+    let whole : x + (j + p.f) ≡ ((x + j) / p.f + 1) * p.f + 0 = omega arith in
+    ap (λ (n : ℕ). n % p.f) whole ∙ mod-mul-add ((x + j) / p.f + 1) p.f 0 some
+
 pub few-entered : (p : Params) (t place n : ℕ) → length (entered_first p t place n) ≤ n
 few-entered p t place n =
     let begins = begins_frame p place in
@@ -158,7 +205,7 @@ abbrev pub leaving : Params → ℕ → List Whole → ℕ → ℕ → Delivered
 leaving p end frames begun i = record {
   left = end + i * p.f - (begun + length frames * p.f);
   mark = (get_or frames i no_frame).mark;
-  words = (get_or frames i no_frame).words;
+  words = words_of p (get_or frames i no_frame).octets;
 }
 
 -- the rows of the first n of them
@@ -228,15 +275,16 @@ pub leaving-shown : (shown : Bool) (rows : List Printed) (p : Params) (end : ℕ
     → time ≡ end + i * p.f - (begun + length frames * p.f) → frame ≡ get_or frames i no_frame
     → rows ++ (if shown then leaving_rows p end frames begun (i + 1) else [])
     ≡ (rows ++ (if shown then leaving_rows p end frames begun i else []))
-    ++ (if shown then (record { row = row.Frame time frame.mark; words = frame.words }) ∷ []
-    else [])
+    ++ (if shown then (record { row = row.Frame time frame.mark; words = words_of p frame.octets })
+    ∷ [] else [])
 leaving-shown shown rows p end frames begun i time frame left is =
     let old : List Printed = leaving_rows p end frames begun i in
     ap (λ (xs : List Printed). rows ++ (if shown then xs else []))
     (leaving-more p end frames begun i
     ∙ ap₂ (λ (at : ℕ) (f : Whole). let x : Printed =
-    record { row = row.Frame at f.mark; words = f.words } in old ++ x ∷ []) (sym left) (sym is))
-    ∙ shown-more shown rows old (record { row = row.Frame time frame.mark; words = frame.words })
+    record { row = row.Frame at f.mark; words = words_of p f.octets } in old ++ x ∷ []) (sym left) (sym is))
+    ∙ shown-more shown rows old
+    (record { row = row.Frame time frame.mark; words = words_of p frame.octets })
 
 -- ---- a tick
 

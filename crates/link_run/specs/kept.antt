@@ -2,6 +2,7 @@
 pub mod Alignments
 pub mod Clocked
 pub mod Gathered
+pub mod Handed
 pub mod Happened
 pub mod LaneRuns
 pub mod LinkStates

@@ -1,19 +1,18 @@
 //! Frames from the octets that the lanes give.
-ghost use Rattle.std.specs.Prelude.{◌≡◌, ◌<◌, ◌≤◌, ◌++◌, [], List, length, map, Some, None, IfOk};
+ghost use Rattle.std.specs.Prelude.{◌≡◌, ◌<◌, ◌≤◌, ◌+◌, ◌-◌, ◌*◌, ◌/◌, ◌%◌, ◌^◌, ◌++◌, [], List, length, map, Some, None, IfOk};
 ghost use Rattle.link_params.specs.declared.fields.Params.{Params as ParamsValue};
 ghost use Rattle.link_params.specs.declared.cells.LaneCell.{LaneCell as CellValue};
 ghost use Rattle.link_params.specs.declared.cells.Mark.TheVariants as mark;
-ghost use Rattle.link_params.specs.Laws.{broken_law};
 ghost use Rattle.link_params.specs.Numbers.{octets_per_tick};
 ghost use Rattle.link_model.specs.kept.Before.{Columns, octet_columns};
-ghost use Rattle.link_run.specs.kept.Gathered.{FramesAre, GathersOn, HasFinished, HasGathered, HasPut, HaveFrameSizes};
+ghost use Rattle.link_run.specs.kept.Gathered.{FramesAre, GathersOn, HasFinished, HasGathered, HasPut, HaveFrameSizes, IsWritten};
 
 use crate::frame::Frame;
 use jesd_base::NoMemory;
 use link_params::{LaneCell, Mark, Shape};
-use sample_map::{Layout, layout_laws};
 use std::alloc::Global;
 use std::marker::Model;
+use std::mem::swap;
 
 /// A frame that is gathered octet by octet from all lanes, and the frames that became whole in the
 /// last tick. Contracts see it as its parameters, how many octets of each lane are there, the worst
@@ -21,7 +20,6 @@ use std::marker::Model;
 #[derive(Drop)]
 pub struct Deframer {
     shape: Shape,
-    layout: Layout,
     per_tick: u32,
     at: u32,
     mark: Mark,
@@ -45,7 +43,7 @@ impl Model for Deframer {
       frames = take d.whole d.frames.items;
     } };
 
-    ghost invariant = { λ d. HasSizes d.shape d.layout d.per_tick d.at d.octets.items d.whole d.frames.items };
+    ghost invariant = { λ d. HasSizes d.shape d.per_tick d.at d.octets.items d.whole d.frames.items };
 }
 
 impl Deframer {
@@ -61,13 +59,12 @@ impl Deframer {
         };
         Ok(Deframer {
             shape: *shape,
-            layout: Layout::new(shape),
             per_tick: shape.octets_per_tick(),
             at: 0,
             mark: Mark::Ok,
             octets,
             whole: 0,
-            frames: open_frames(alloc, shape)?,
+            frames: open_frames(alloc, shape, size)?,
         })
     }
 
@@ -110,57 +107,66 @@ impl Deframer {
         self.whole = 0;
         // All lanes give, or none does.
         if given[0].is_some() {
-            for j in 0..self.per_tick {
-                self.take_octet(given, j);
+            let per_tick = self.per_tick;
+            let mut taken = 0;
+            while taken < per_tick {
+                taken += self.take_octets(given, taken);
             }
         }
     }
 
-    // Octet j of each lane's cell.
-    fn take_octet(&mut self, given: &[Option<LaneCell>], j: u32)
+    // The octets of each lane's cell from octet j on that are of one frame. How many these are.
+    fn take_octets(&mut self, given: &[Option<LaneCell>], j: u32) -> u32
         requires lanes { length given.now ≡ self.old.params.l }
         requires j { j < octets_per_tick self.old.params }
         requires room { length self.old.frames < octets_per_tick self.old.params }
-        ensures { GathersOn self.old self.new given.now j }
+        ensures gathers { GathersOn self.old self.new given.now j result }
+        ensures within { j + result ≤ octets_per_tick self.old.params }
     {
-        self.put(given, j);
-        let at = self.at + 1;
-        if at < self.shape.params().f {
+        let size = self.shape.frame_octets();
+        let count = (size - self.at).min(self.per_tick - j);
+        self.put(given, j, count);
+        let at = self.at + count;
+        if at < size {
             self.at = at;
         } else {
             self.finish();
         }
+        count
     }
 
     // The octets of a whole frame are there.
     fn finish(&mut self)
         requires room { length self.old.frames < octets_per_tick self.old.params }
-        requires legal { broken_law self.old.params ≡ None }
         ensures { HasFinished self.old self.new }
     {
-        layout_laws();
         let frame = &mut self.frames[self.whole];
-        self.layout.unmap(&self.octets, &mut frame.words);
+        swap(&mut self.octets, &mut frame.octets);
         frame.mark = self.mark;
         self.whole += 1;
         self.begin();
     }
 
-    // Octet j of each lane's cell, the first one most significant, at the same place of the frame.
-    fn put(&mut self, given: &[Option<LaneCell>], j: u32)
+    // So many octets of each lane's cell, from octet j on, at the same places of the frame.
+    fn put(&mut self, given: &[Option<LaneCell>], j: u32, count: u32)
         requires lanes { length given.now ≡ self.old.params.l }
-        requires j { j < octets_per_tick self.old.params }
-        ensures { HasPut self.old self.new given.now j }
+        requires some { 0 < count }
+        requires cell { j + count ≤ octets_per_tick self.old.params }
+        requires frame { self.old.at + count ≤ self.old.params.f }
+        ensures { HasPut self.old self.new given.now j count }
     {
-        let first = self.at as usize;
-        let octets = self.shape.frame_octets() as usize;
-        let behind = 8 * (self.per_tick - 1 - j);
+        let size = self.shape.frame_octets() as usize;
+        let behind = 8 * (self.per_tick - j - count);
+        let (first, count) = (self.at as usize, count as usize);
+        let mut mark = self.mark;
         for (lane, cell) in given.iter().enumerate() {
             if let Some(cell) = cell {
-                self.octets[lane * octets + first] = ((cell.value >> behind) % 256) as u8;
-                self.mark = self.mark.worse(cell.mark);
+                let place = lane * size + first;
+                write_octets(&mut self.octets, place, count, cell.value >> behind);
+                mark = mark.worse(cell.mark);
             }
         }
+        self.mark = mark;
     }
 
     /// The frames that became whole in the last tick, oldest first.
@@ -179,19 +185,49 @@ impl Deframer {
     }
 }
 
-// Room for the frames that may become whole in a tick.
-fn open_frames(alloc: Global, shape: &Shape) -> Result<Vec<Frame>, NoMemory>
+// Writes the last `count` octets of a value at a place, the most significant first. A frame has
+// mostly a power of two of octets: for those counts, constants here, the loop is laid out.
+fn write_octets(octets: &mut [u8], place: usize, count: usize, value: u64)
+    requires place { place + count ≤ length octets.old }
+    requires few { count ≤ 8 }
+    ensures { IsWritten octets.old octets.new place count
+        (λ i. value / 2 ^ (8 * (count - 1 - i)) % 256) }
+{
+    match count {
+        1 => write_each(octets, place, 1, value),
+        2 => write_each(octets, place, 2, value),
+        4 => write_each(octets, place, 4, value),
+        8 => write_each(octets, place, 8, value),
+        _ => write_each(octets, place, count, value),
+    }
+}
+
+// The same, an octet at a time.
+#[inline(always)]
+fn write_each(octets: &mut [u8], place: usize, count: usize, value: u64)
+    requires place { place + count ≤ length octets.old }
+    requires few { count ≤ 8 }
+    ensures { IsWritten octets.old octets.new place count
+        (λ i. value / 2 ^ (8 * (count - 1 - i)) % 256) }
+{
+    for i in 0..count {
+        octets[place + i] = ((value >> (8 * (count - 1 - i) as u32)) % 256) as u8;
+    }
+}
+
+// Room for the frames that may become whole in a tick, of `size` octets each.
+fn open_frames(alloc: Global, shape: &Shape, size: usize) -> Result<Vec<Frame>, NoMemory>
+    requires { size ≡ shape.now.l * shape.now.f }
     ensures { IfOk result (λ v. HaveFrameSizes shape.now v.items) }
 {
-    let count = shape.frame_words() as usize;
     let mut frames = Vec::new(alloc);
     for _ in 0..shape.octets_per_tick() {
-        let Ok(words) = vec![in alloc; 0u32; count] else {
+        let Ok(octets) = vec![in alloc; 0u8; size] else {
             return Err(NoMemory);
         };
         let frame = Frame {
             mark: Mark::Ok,
-            words,
+            octets,
         };
         if frames.push(frame).is_err() {
             return Err(NoMemory);

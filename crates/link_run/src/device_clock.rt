@@ -47,6 +47,7 @@ impl DeviceClock {
     pub fn new(link: &Link, jitters: &[Jitter], device: Device) -> DeviceClock
         requires { All (λ j. IsTrue (jitter_fits j)) jitters.now }
         ensures device { result.device ≡ device }
+        ensures link { result.link ≡ link.now }
         ensures begins { (s : Plan) → s.link ≡ link.now → s.jitters ≡ jitters.now
             → HasClocked result s 0 }
     {
@@ -73,6 +74,7 @@ impl DeviceClock {
             → reset ≡ is_reset s self.old.device t
             → HasClocked self.new s (t + 1) }
         ensures same { self.new.device ≡ self.old.device }
+        ensures link { self.new.link ≡ self.old.link }
     {
         clear_if(&mut self.clock, reset);
         let edge = t == self.tick;

@@ -1,12 +1,16 @@
 //! The octets of source frames, on their way into the lanes.
-ghost use Rattle.std.specs.Prelude.{◌≡◌, ◌<◌, ◌≤◌, ◌+◌, ◌-◌, ◌*◌, ◌^◌, ◌==◌, true, ℕ, List, Some, All, IfOk, IfSome, if◌then◌else◌, length, map, slice_index};
+ghost use Rattle.std.specs.Prelude.{◌≡◌, ◌<◌, ◌≤◌, ◌+◌, ◌-◌, ◌*◌, ◌^◌, ◌==◌, true, ℕ, List, Some, All, IfOk, IfSome, if◌then◌else◌, length, map, replicate};
 ghost use Rattle.link_params.specs.Laws.{is_b};
+ghost use Rattle.link_params.specs.Numbers.{octets_per_tick};
 ghost use Rattle.sample_map.specs.Frames.{frame_of};
 ghost use Rattle.scenario.specs.Plans.{Plan, numbers_from, plan_of, source_frame};
 ghost use Rattle.link_model.specs.Sends.{beginnings, handed_to};
-ghost use Rattle.link_run.specs.kept.Seen.{HasFed, with_octet};
+ghost use Rattle.link_run.specs.kept.Handed.{Hands, with_octets};
+ghost use Rattle.link_run.specs.kept.Seen.{HasFed};
 
+use crate::frame_octets::{add_octets, clear};
 use jesd_base::NoMemory;
+use link_params::place_in_frame;
 use sample_map::{Layout, layout_laws};
 use scenario::{Scenario, source_frame};
 use std::alloc::Global;
@@ -20,6 +24,8 @@ pub struct Feed {
     // The octets of a frame on a lane, and those of a tick on a lane.
     size: u32,
     per_tick: u32,
+    // The frames of a tick, where each tick has whole ones; else 0.
+    frames: u32,
     begun: u32,
     words: Vec<u32>,
     octets: Vec<u8>,
@@ -38,7 +44,7 @@ impl Model for Feed {
           f.octets.items;
     } };
 
-    ghost invariant = { λ f. HasFeedSizes f.layout f.size f.per_tick f.words.items f.octets.items };
+    ghost invariant = { λ f. HasFeedSizes f.layout f.size f.per_tick f.frames f.words.items f.octets.items };
 }
 
 impl Feed {
@@ -49,16 +55,22 @@ impl Feed {
             → IfOk result (λ f. HasFed f plan 0) }
         ensures shape { IfOk result (λ f. f.params ≡ s.now.shape) }
     {
-        let size = (s.shape.lanes() * s.shape.frame_octets()) as usize;
-        let count = s.shape.frame_words() as usize;
-        let (Ok(octets), Ok(words)) = (vec![in alloc; 0u8; size], vec![in alloc; 0u32; count])
+        let (size, per_tick) = (s.shape.frame_octets(), s.shape.octets_per_tick());
+        let count = (s.shape.lanes() * size) as usize;
+        let words = s.shape.frame_words() as usize;
+        let (Ok(octets), Ok(words)) = (vec![in alloc; 0u8; count], vec![in alloc; 0u32; words])
         else {
             return Err(NoMemory);
         };
         let mut feed = Feed {
             layout: Layout::new(&s.shape),
-            size: s.shape.frame_octets(),
-            per_tick: s.shape.octets_per_tick(),
+            size,
+            per_tick,
+            frames: if per_tick % size == 0 {
+                per_tick / size
+            } else {
+                0
+            },
             begun: 0,
             words,
             octets,
@@ -84,23 +96,67 @@ impl Feed {
         ensures same { self.new.params ≡ self.old.params }
         ensures count { self.new.begun ≤ self.old.begun + 8 }
     {
-        handed.fill(0);
-        if let Some(place) = place {
-            for j in 0..self.per_tick {
-                self.hand_octet(s, (self.per_tick * place + j) % self.size, handed);
-            }
+        clear(handed);
+        let frames = self.frames;
+        match place {
+            Some(_) if frames > 0 => self.hand_frames(s, frames, handed),
+            Some(place) => self.hand_rows(s, place, handed),
+            None => {}
         }
     }
 
-    // The next octet of each lane, at this place of a frame.
-    fn hand_octet(&mut self, s: &Scenario, at: u32, handed: &mut [u64])
+    // The octets of a tick that has so many whole frames.
+    #[inline(always)]
+    fn hand_frames(&mut self, s: &Scenario, frames: u32, handed: &mut [u64])
+        requires shape { s.now.shape ≡ self.old.params }
+        requires none { handed.old ≡ replicate self.old.params.l 0 }
+        requires whole { frames * self.old.params.f ≡ octets_per_tick self.old.params }
+        requires count { self.old.begun + 8 ≤ 4294967295 }
+        ensures handed { (place : ℕ) → Hands s.now self.old self.new place
+            (octets_per_tick self.old.params) handed.new }
+        ensures small { All (λ v. v < 256 ^ octets_per_tick self.old.params) handed.new }
+    {
+        let size = self.size;
+        for _frame in 0..frames {
+            self.hand_octets(s, 0, size, handed);
+        }
+    }
+
+    // The octets of a tick at this place, those of a frame at a time.
+    fn hand_rows(&mut self, s: &Scenario, place: u32, handed: &mut [u64])
+        requires shape { s.now.shape ≡ self.old.params }
+        requires none { handed.old ≡ replicate self.old.params.l 0 }
+        requires place { place < 1024 }
+        requires count { self.old.begun + 8 ≤ 4294967295 }
+        ensures handed { Hands s.now self.old self.new place
+            (octets_per_tick self.old.params) handed.new }
+        ensures small { All (λ v. v < 256 ^ octets_per_tick self.old.params) handed.new }
+    {
+        let (size, per_tick) = (self.size, self.per_tick);
+        let mut at = place_in_frame(per_tick * place, size);
+        let mut done = 0;
+        while done < per_tick {
+            let count = (size - at).min(per_tick - done);
+            self.hand_octets(s, at, count, handed);
+            done += count;
+            // where the tick has more octets, the next one begins a frame
+            at = 0;
+        }
+    }
+
+    // The next octets of each lane: `count` of a frame, from octet `at` of it on.
+    #[inline(always)]
+    fn hand_octets(&mut self, s: &Scenario, at: u32, count: u32, handed: &mut [u64])
         requires shape { s.now.shape ≡ self.old.params }
         requires lanes { length handed.old ≡ self.old.params.l }
-        requires at { at < self.old.params.f }
+        requires at { at + count ≤ self.old.params.f }
+        requires few { count ≤ 8 }
         requires count { self.old.begun < 4294967295 }
-        requires small { All (λ v. v < 2 ^ 56) handed.old }
-        ensures handed { handed.new ≡ with_octet self.new at handed.old }
-        ensures small { (m : ℕ) → All (λ v. v < m) handed.old → All (λ v. v < m * 256) handed.new }
+        requires small { All (λ v. v < 256 ^ (8 - count)) handed.old }
+        ensures handed { handed.new
+            ≡ with_octets self.new.octets self.new.params.f at count handed.old }
+        ensures small { (m : ℕ) → All (λ v. v < m) handed.old
+            → All (λ v. v < m * 256 ^ count) handed.new }
         ensures fed { (plan : Plan) (n : ℕ) → plan_of s.now ≡ Some plan → HasFed self.old plan n
             → HasFed self.new plan (n + (if at == 0 then 1 else 0)) }
         ensures same { self.new.params ≡ self.old.params }
@@ -109,32 +165,12 @@ impl Feed {
         if at == 0 {
             self.begin(s);
         }
-        self.add_octet(at, handed);
-    }
-
-    // Octet `at` of the frame that began last, behind what each lane has.
-    fn add_octet(&self, at: u32, handed: &mut [u64])
-        requires lanes { length handed.old ≡ self.now.params.l }
-        requires at { at < self.now.params.f }
-        requires small { All (λ v. v < 2 ^ 56) handed.old }
-        ensures handed { handed.new ≡ with_octet self.now at handed.old }
-        ensures small { (m : ℕ) → All (λ v. v < m) handed.old → All (λ v. v < m * 256) handed.new }
-    {
-        let (size, at) = (self.size as usize, at as usize);
-        for (lane, number) in handed.iter_mut().enumerate() {
-            *number = *number * 256 + u64::from(self.octet(lane * size + at));
-        }
-    }
-
-    // The octet at this place of the frame that began last.
-    fn octet(&self, place: usize) -> u8
-        requires { place < length self.now.octets }
-        ensures { result ≡ slice_index self.now.octets place }
-    {
-        self.octets[place]
+        let size = self.size as usize;
+        add_octets(&self.octets, size, at as usize, count as usize, handed);
     }
 
     // The next source frame begins.
+    #[inline(always)]
     fn begin(&mut self, s: &Scenario)
         requires count { self.old.begun < 4294967295 }
         requires shape { s.now.shape ≡ self.old.params }
@@ -149,6 +185,7 @@ impl Feed {
 
     // Writes the words and the octets of a source frame. A scenario with no link has none, and
     // nothing is written.
+    #[inline(always)]
     fn lay_out(&mut self, s: &Scenario, number: u32)
         requires { s.now.shape ≡ self.old.params }
         ensures same { self.new.params ≡ self.old.params }

@@ -1,14 +1,15 @@
 //! A frame that was delivered.
+
 use link_params::Mark;
 use std::marker::Model;
 
-/// A frame that is whole. Contracts see it as its mark and its words.
+/// A frame that is whole. Contracts see it as its mark and its octets.
 #[derive(Drop)]
 pub struct Frame {
     /// The worst of the marks of its octets.
     pub mark: Mark,
-    /// Its words, M·S of them.
-    pub words: Vec<u32>,
+    /// Its octets, L·F of them, lane 0's first.
+    pub octets: Vec<u8>,
 }
 
 impl Model for Frame {
@@ -16,5 +17,5 @@ impl Model for Frame {
 
     ghost Value = { Whole };
 
-    ghost view = { λ f. record { mark = f.mark; words = f.words.items } };
+    ghost view = { λ f. record { mark = f.mark; octets = f.octets.items } };
 }

@@ -13,6 +13,7 @@ mod events;
 mod feed;
 mod flips;
 mod frame;
+mod frame_octets;
 mod happened;
 mod lanes;
 mod link_state;

@@ -95,7 +95,7 @@ impl LinkState {
         ensures goes_on { (plan : Plan) → plan_of s.now ≡ Some plan
             → HasRun self.new plan (run_of plan (t + 1)) }
         ensures place { IfSome result.place (λ x. x < 1024) }
-        ensures words { All (λ (f : Whole). length f.words ≡ s.now.shape.m * s.now.shape.s) self.new.gathering.frames }
+        ensures octets { All (λ (f : Whole). length f.octets ≡ s.now.shape.l * s.now.shape.f) self.new.gathering.frames }
         ensures begun { self.new.gathering.at ≤ 256 }
         ensures same { self.new.link ≡ self.old.link }
     {

@@ -33,11 +33,15 @@ pub struct Receiver {
     control: Control,
     // A hunt begins with the next tick.
     hunts: bool,
+    // The offset of a start in a tick of phase 0.
+    first: u32,
     reports: Vec<LaneReport>,
     alarms: AlarmRow,
 }
 
 impl Model for Receiver {
+    ghost use Rattle.std.specs.Prelude.{◌≡◌, Some};
+    ghost use Rattle.link_model.specs.Receives.{offset_at};
     ghost use Rattle.link_run.specs.kept.ReceiverRuns.{RxEnd};
 
     ghost Value = { RxEnd };
@@ -50,6 +54,8 @@ impl Model for Receiver {
           r.reports.items;
       alarms = r.alarms;
     } };
+
+    ghost invariant = { λ r. r.first ≡ offset_at r.clock.link.params r.clock.link.timing (Some 0) };
 }
 
 impl Receiver {
@@ -71,6 +77,7 @@ impl Receiver {
             clock: DeviceClock::new(link, &s.jitters, Device::Rx),
             control: Control::new(link),
             hunts: true,
+            first: first_offset(link),
             reports,
             alarms: AlarmRow::new(),
         })
@@ -88,7 +95,7 @@ impl Receiver {
         let told = RxOrder {
             hunt: either(reset, self.hunts),
             armed: !self.control.sync_low(),
-            offset: offset_of(link, clock.phase),
+            offset: offset_of(link, self.first, clock.phase),
         };
         RxTick {
             off: clock.off,
@@ -179,20 +186,48 @@ fn either(a: bool, b: bool) -> bool
     a || b
 }
 
-// The offset that a start would have at this phase of the receiver's clock.
-fn offset_of(link: &Link, phase: Option<u32>) -> u32
-    ensures { result ≡ offset_at link.now.params link.now.timing phase }
+// The offset that a start would have at this phase of the receiver's clock. `first`: the one that it
+// would have at phase 0.
+fn offset_of(link: &Link, first: u32, phase: Option<u32>) -> u32
+    ensures { first ≡ offset_at link.now.params link.now.timing (Some 0)
+        → result ≡ offset_at link.now.params link.now.timing phase }
 {
     let _timing = link.timing();
     match phase {
-        Some(phase) => offset_at(
-            u64::from(phase) + u64::from(link.rx_edge()),
-            u64::from(link.tx_edge()) + u64::from(link.wait()),
-            u64::from(link.wait()),
+        Some(phase) => remainder(
+            u64::from(first) + u64::from(phase),
             u64::from(link.shape().period()),
         ),
         None => 0,
     }
+}
+
+// A sum of two numbers, modulo the period: mostly both are below it.
+fn remainder(sum: u64, period: u64) -> u32
+    requires low { 1 ≤ period }
+    requires high { period ≤ 1024 }
+    ensures { result ≡ sum % period }
+{
+    if sum < period {
+        sum as u32
+    } else if sum - period < period {
+        (sum - period) as u32
+    } else {
+        (sum % period) as u32
+    }
+}
+
+// The offset that a start would have at a boundary of the receiver's clock.
+fn first_offset(link: &Link) -> u32
+    ensures { result ≡ offset_at link.now.params link.now.timing (Some 0) }
+{
+    let _timing = link.timing();
+    offset_at(
+        u64::from(link.rx_edge()),
+        u64::from(link.tx_edge()) + u64::from(link.wait()),
+        u64::from(link.wait()),
+        u64::from(link.shape().period()),
+    )
 }
 
 // How far a tick is from another one, modulo the period; so many periods and one more are added

@@ -3,11 +3,13 @@ ghost use Rattle.std.specs.Prelude.{◌≡◌, ◌≤◌, ◌<◌, ◌+◌, ◌*
 ghost use Rattle.scenario.specs.declared.report_row.Row.TheVariants as row;
 ghost use Rattle.scenario.specs.Limits.{has_words};
 ghost use Rattle.scenario.specs.Plans.{Plan, plan_of, source_frame};
-ghost use Rattle.link_model.specs.Report.{Printed, bare, prints_all, prints_frames};
+ghost use Rattle.sample_map.specs.Frames.{words_of};
+ghost use Rattle.link_model.specs.Report.{Printed, bare, prints_all};
 ghost use Rattle.link_run.specs.kept.Printing.{HasPrinted, counted_mark};
 
 use jesd_base::NoMemory;
 use link_params::{Alarm, Mark};
+use sample_map::{Layout, layout_laws};
 use scenario::{LineText, Print, Row, Scenario, Totals, source_frame};
 use std::alloc::Global;
 use std::marker::Model;
@@ -18,7 +20,7 @@ use std::marker::Model;
 pub struct Report {
     text: Vec<u8>,
     line: LineText,
-    // Room for the words of a source frame.
+    // Room for the words of a frame.
     words: Vec<u32>,
     totals: Totals,
 }
@@ -136,33 +138,35 @@ impl Report {
         let number = u64::from(self.totals.entered);
         self.totals.entered += 1;
         match s.print {
-            Print::All => {
-                source_frame(s, number, &mut self.words);
-                self.line.line(&Row::Enter(time), &self.words, s);
-                self.put()
-            }
+            Print::All => self.enter_row(s, time, number),
             Print::None | Print::Frames => Ok(()),
         }
     }
 
-    /// A frame is delivered, whose first octet left at this octet time.
-    pub fn frame(
-        &mut self,
-        s: &Scenario,
-        time: u32,
-        mark: Mark,
-        words: &[u32],
-    ) -> Result<(), NoMemory>
+    // The row of this source frame.
+    #[inline(never)]
+    fn enter_row(&mut self, s: &Scenario, time: u32, number: u64) -> Result<(), NoMemory>
+        requires size { self.old.size ≡ s.now.shape.m * s.now.shape.s }
+        requires room { 128 + 9 * self.old.size ≤ self.old.room }
+        requires some { IsTrue (has_words s.now.input) }
+        ensures printed { (plan : Plan) (rows : List Printed) → plan_of s.now ≡ Some plan
+            → HasPrinted self.old plan rows
+            → OnOk result (HasPrinted self.new plan (rows ++ (record { row = row.Enter time; words = source_frame plan number }) ∷ [])) }
+        ensures counts { self.new.totals ≡ self.old.totals }
+        ensures room { self.old.room ≤ self.new.room }
+        ensures size { self.new.size ≡ self.old.size }
+    {
+        source_frame(s, number, &mut self.words);
+        self.line.line(&Row::Enter(time), &self.words, s);
+        self.put()
+    }
+
+    /// A frame with this mark is delivered.
+    pub fn count(&mut self, mark: Mark)
         requires count { self.old.totals.delivered < 4294967295 }
         requires marks { (self.old.totals.ok < 4294967295) × (self.old.totals.fixed < 4294967295)
             × (self.old.totals.bad < 4294967295) }
-        requires room { 128 + 9 * length words.now ≤ self.old.room }
-        ensures printed { (plan : Plan) (rows : List Printed) → plan_of s.now ≡ Some plan
-            → HasPrinted self.old plan rows
-            → OnOk result (HasPrinted self.new plan (rows ++ (if prints_frames plan.print then (record { row = row.Frame time mark; words = words.now }) ∷ [] else []))) }
-        ensures counts { self.new.totals ≡ counted_mark self.old.totals mark }
-        ensures room { self.old.room ≤ self.new.room }
-        ensures size { self.new.size ≡ self.old.size }
+        ensures { self.new ≡ record self.old { totals = counted_mark self.old.totals mark } }
     {
         self.totals.delivered += 1;
         match mark {
@@ -170,10 +174,31 @@ impl Report {
             Mark::Fixed => self.totals.fixed += 1,
             Mark::Bad => self.totals.bad += 1,
         }
-        match s.print {
-            Print::Frames | Print::All => self.row(s, &Row::Frame(time, mark), words),
-            Print::None => Ok(()),
-        }
+    }
+
+    /// The row of a frame, whose first octet left at this octet time.
+    pub fn frame(
+        &mut self,
+        s: &Scenario,
+        time: u32,
+        mark: Mark,
+        octets: &[u8],
+    ) -> Result<(), NoMemory>
+        requires size { self.old.size ≡ s.now.shape.m * s.now.shape.s }
+        requires octets { length octets.now ≡ s.now.shape.l * s.now.shape.f }
+        requires room { 128 + 9 * self.old.size ≤ self.old.room }
+        ensures printed { (plan : Plan) (rows : List Printed) → plan_of s.now ≡ Some plan
+            → HasPrinted self.old plan rows
+            → OnOk result (HasPrinted self.new plan (rows ++ (record { row = row.Frame time mark; words = words_of s.now.shape octets.now }) ∷ [])) }
+        ensures counts { self.new.totals ≡ self.old.totals }
+        ensures room { self.old.room ≤ self.new.room }
+        ensures size { self.new.size ≡ self.old.size }
+    {
+        let _params = s.shape.params();
+        layout_laws();
+        Layout::new(&s.shape).unmap(octets, &mut self.words);
+        self.line.line(&Row::Frame(time, mark), &self.words, s);
+        self.put()
     }
 
     /// A tick is over; `fullest` is the most entries that any lane has held so far.

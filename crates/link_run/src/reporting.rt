@@ -1,5 +1,5 @@
 //! The rows of a tick.
-ghost use Rattle.std.specs.Prelude.{◌≡◌, ◌≤◌, ◌<◌, ◌+◌, ◌*◌, ◌++◌, ◌∷◌, [], List, All, length, map, if◌then◌else◌, Some, IfSome, IsTrue, OnOk};
+ghost use Rattle.std.specs.Prelude.{◌≡◌, ◌≤◌, ◌<◌, ◌+◌, ◌*◌, ◌%◌, ◌++◌, ◌∷◌, [], List, All, length, map, if◌then◌else◌, Some, IfSome, IsTrue, OnOk};
 ghost use Rattle.scenario.specs.Limits.{has_words};
 ghost use Rattle.scenario.specs.declared.report_row.Row.TheVariants as row;
 ghost use Rattle.scenario.specs.Plans.{Plan, plan_of};
@@ -16,8 +16,8 @@ use crate::report::Report;
 use crate::ticked::Ticked;
 use bring_up::{AlarmRow, Decision};
 use jesd_base::NoMemory;
-use link_params::{Alarm, Device};
-use scenario::{Row, Scenario};
+use link_params::{Alarm, Device, place_in_frame};
+use scenario::{Print, Row, Scenario};
 
 // A hunt, where the receiver was reset.
 fn add_reset(report: &mut Report, s: &Scenario, t: u32, reset: bool) -> Result<(), NoMemory>
@@ -87,12 +87,23 @@ fn add_entries(
     let Some(place) = place else { return Ok(()) };
     let per_tick = s.shape.octets_per_tick();
     let size = s.shape.frame_octets();
-    for j in 0..per_tick {
-        if (per_tick * place + j) % size == 0 {
-            report.enter(s, per_tick * t + j)?;
-        }
+    // The next octet of the tick that begins a frame.
+    let mut next = octets_to_frame(per_tick * place, size);
+    while next < per_tick {
+        report.enter(s, per_tick * t + next)?;
+        next += size;
     }
     Ok(())
+}
+
+// How many octets of a lane come before the next frame, from this octet on.
+fn octets_to_frame(octet: u32, size: u32) -> u32
+    requires size { (1 ≤ size) × (size ≤ 256) }
+    ensures begins { (octet + result) % size ≡ 0 }
+    ensures below { result < size }
+{
+    let at = place_in_frame(octet, size);
+    if at == 0 { 0 } else { size - at }
 }
 
 // The alarms of a decision, in their order.
@@ -135,6 +146,19 @@ fn add_decision(
     }
 }
 
+// The frames that left, in the counts.
+fn count_frames(report: &mut Report, frames: &[Frame])
+    requires few { length frames.now ≤ 8 }
+    requires counts { AreFewFrames report.old.totals (8 * 1048576) }
+    ensures { report.new ≡ record report.old {
+      totals = with_marks report.old.totals (map (λ (f : Whole). f.mark) frames.now);
+    } }
+{
+    for frame in frames {
+        report.count(frame.mark);
+    }
+}
+
 // The frames that left; `end`: the octet time after the tick, `begun`: how many octets of each lane
 // came behind the last of them.
 fn add_frames(
@@ -148,7 +172,9 @@ fn add_frames(
     requires few { length frames.now ≤ 8 }
     requires begun { begun ≤ 256 }
     requires counts { AreFewFrames report.old.totals (8 * 1048576) }
-    requires words { All (λ (f : Whole). 128 + 9 * length f.words ≤ report.old.room) frames.now }
+    requires size { report.old.size ≡ s.now.shape.m * s.now.shape.s }
+    requires room { 128 + 9 * report.old.size ≤ report.old.room }
+    requires octets { All (λ (f : Whole). length f.octets ≡ s.now.shape.l * s.now.shape.f) frames.now }
     ensures printed { (plan : Plan) (rows : List Printed) → plan_of s.now ≡ Some plan
         → HasPrinted report.old plan rows
         → OnOk result (HasPrinted report.new plan (rows ++ (if prints_frames plan.print then map frame_row (delivered_of plan.link.params end frames.now begun) else []))) }
@@ -156,11 +182,40 @@ fn add_frames(
     ensures room { report.old.room ≤ report.new.room }
     ensures size { report.new.size ≡ report.old.size }
 {
+    count_frames(report, frames);
+    match s.print {
+        Print::Frames | Print::All => add_frame_rows(report, s, end, frames, begun),
+        Print::None => Ok(()),
+    }
+}
+
+// Their rows.
+#[inline(never)]
+fn add_frame_rows(
+    report: &mut Report,
+    s: &Scenario,
+    end: u32,
+    frames: &[Frame],
+    begun: u32,
+) -> Result<(), NoMemory>
+    requires end { end ≤ 8388608 }
+    requires few { length frames.now ≤ 8 }
+    requires begun { begun ≤ 256 }
+    requires size { report.old.size ≡ s.now.shape.m * s.now.shape.s }
+    requires room { 128 + 9 * report.old.size ≤ report.old.room }
+    requires octets { All (λ (f : Whole). length f.octets ≡ s.now.shape.l * s.now.shape.f) frames.now }
+    ensures printed { (plan : Plan) (rows : List Printed) → plan_of s.now ≡ Some plan
+        → HasPrinted report.old plan rows
+        → OnOk result (HasPrinted report.new plan (rows ++ map frame_row (delivered_of plan.link.params end frames.now begun))) }
+    ensures counts { report.new.totals ≡ report.old.totals }
+    ensures room { report.old.room ≤ report.new.room }
+    ensures size { report.new.size ≡ report.old.size }
+{
     let size = s.shape.frame_octets();
     let after = begun + frames.len() as u32 * size;
     let mut next = end;
     for frame in frames {
-        report.frame(s, next.saturating_sub(after), frame.mark, &frame.words)?;
+        report.frame(s, next.saturating_sub(after), frame.mark, &frame.octets)?;
         next += size;
     }
     Ok(())
@@ -187,7 +242,7 @@ pub fn report_tick(
     requires room { 128 + 9 * report.old.size ≤ report.old.room }
     requires some { IsTrue (has_words s.now.input) }
     requires frames { length frames.now ≤ 8 }
-    requires words { All (λ (f : Whole). 128 + 9 * length f.words ≤ report.old.room) frames.now }
+    requires octets { All (λ (f : Whole). length f.octets ≡ s.now.shape.l * s.now.shape.f) frames.now }
     requires begun { begun ≤ 256 }
     ensures reported { (plan : Plan) (h : History) → plan_of s.now ≡ Some plan
         → HasReported report.old plan h → t ≡ length h

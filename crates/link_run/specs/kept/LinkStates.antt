@@ -97,7 +97,7 @@ pub record HasGiven (now : LinkView) (s : Plan) (h : History) : Type 0 where
   pub gathered : HasGathered now.gathering s.link.params (columns_of s (h ++ moment_of s h ∷ []))
   pub delivered : (moment_of s h).delivered ≡ delivered_of s.link.params
       (octets_per_tick s.link.params * (length h + 1)) now.gathering.frames now.gathering.at
-  pub words : All (λ (f : Whole). length f.words ≡ s.link.params.m * s.link.params.s)
+  pub octets : All (λ (f : Whole). length f.octets ≡ s.link.params.l * s.link.params.f)
       now.gathering.frames
   pub begun : now.gathering.at ≤ 256
   pub given : length now.given ≡ s.link.params.l

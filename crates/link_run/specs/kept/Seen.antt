@@ -1,10 +1,10 @@
 -- What the parts of the transmitter keep of a run.
 -- Code: a row of levels, and one frame.
-use Rattle.std.specs.Prelude.{◌≡◌, ◌≤◌, ℕ, ◌+◌, ◌-◌, ◌*◌, Bool, true, List, ◌++◌, map, length, get_or, slice_index, replicate, drop}
+use Rattle.std.specs.Prelude.{◌≡◌, ◌<◌, ◌≤◌, ℕ, ◌+◌, ◌-◌, ◌*◌, Bool, true, List, ◌++◌, length, replicate, drop}
 use Rattle.link_params.specs.declared.fields.Params.{Params}
 use Rattle.link_params.specs.Numbers.{octets_per_tick}
 use Rattle.sample_map.specs.Frames.{frame_of}
-use Rattle.scenario.specs.Plans.{Plan, numbers_from, source_frame}
+use Rattle.scenario.specs.Plans.{Plan, source_frame}
 
 -- a SYNC~ with this delay took these levels, one after each tick; what it keeps is what will be
 -- seen next, the first one first
@@ -25,18 +25,15 @@ pub record HasFed (now : Fed) (s : Plan) (n : ℕ) : Type 0 where
   pub words : now.words ≡ source_frame s (n - 1)
   pub frame : now.octets ≡ frame_of s.link.params (source_frame s (n - 1))
 
--- the sizes of a feed: the octets of a frame and of a tick on a lane, words and octets of a frame
-pub record HasFeedSizes (p : Params) (size per_tick : ℕ) (words octets : List ℕ) : Type 0 where
+-- the sizes of a feed: the octets of a frame and of a tick on a lane, the frames of a tick if each
+-- has whole ones, else 0, words and octets of a frame
+pub record HasFeedSizes (p : Params) (size per_tick frames : ℕ) (words octets : List ℕ)
+    : Type 0 where
   pub size_is : size ≡ p.f
   pub some : 1 ≤ size
   pub most : size ≤ 256
   pub per_tick_is : per_tick ≡ octets_per_tick p
   pub few : per_tick ≤ 8
+  pub whole : 0 < frames → frames * size ≡ per_tick
   pub words_are : length words ≡ p.m * p.s
   pub octets_are : length octets ≡ p.l * p.f
-
--- the numbers that lanes are handed, with octet `at` of the frame behind each
-abbrev pub with_octet : Fed → ℕ → List ℕ → List ℕ
-with_octet f at handed =
-    map (λ lane. get_or handed lane 0 * 256 + slice_index f.octets (lane * f.params.f + at))
-    (numbers_from 0 f.params.l)

@@ -7,17 +7,17 @@ use Rattle.link_run.proofs.deframer.open_frames.Goals as goal
 
 pub loop-preserved : goal.loop-preserved
 loop-preserved c =
-    let frame : Whole = record { mark = Good; words = c.in-Ok.words.items } in
+    let frame : Whole = record { mark = Good; octets = c.in-Ok.octets.items } in
     let frames : List Whole = c.loop.frames.items in
     let items = c.push.ensures.items
     ∙ ap (λ b. if b then frames ++ frame ∷ [] else frames) c.if-is_err.ensures.negation in
     let long = length-append frames (frame ∷ []) in
     let count = c.loop.invariant.0 in
-    let size : length c.in-Ok.words.items ≡ c.args.shape.now.m * c.args.shape.now.s =
-    sym c.in-Ok.words.ok.0 ∙ c.in-Ok.ensures.len ∙ c.frame_words-count.ensures.value in
+    let size : length c.in-Ok.octets.items ≡ c.args.shape.now.l * c.args.shape.now.f =
+    sym c.in-Ok.octets.ok.0 ∙ c.in-Ok.ensures.len ∙ c.requires in
     rw items (
       omega arith,
-      All-push (λ (f : Whole). length f.words ≡ c.args.shape.now.m * c.args.shape.now.s)
+      All-push (λ (f : Whole). length f.octets ≡ c.args.shape.now.l * c.args.shape.now.f)
           frames frame c.loop.invariant.1 size,
     )
 

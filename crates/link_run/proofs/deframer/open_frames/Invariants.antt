@@ -6,4 +6,4 @@ use Rattle.link_run.proofs.deframer.open_frames.Given as goal
 abbrev pub invariant-loop : goal.invariant-loop
 invariant-loop l =
     (length l.frames.items ≡ l.counter)
-    × All (λ (f : Whole). length f.words ≡ l.shape.m * l.shape.s) l.frames.items
+    × All (λ (f : Whole). length f.octets ≡ l.shape.l * l.shape.f) l.frames.items

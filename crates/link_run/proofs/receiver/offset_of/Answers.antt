@@ -1,26 +1,19 @@
-use Rattle.std.proofs.Common.{◌≡◌, ◌∙◌, arith, sym, ap}
+use Rattle.std.proofs.Common.{◌≡◌, ◌∙◌, ◌+◌, ◌%◌, Some, arith, sym, ap, ap₂}
 use Rattle.link_params.specs.Numbers.{period}
-use Rattle.link_run.proofs.LinkFacts.{edges-within}
+use Rattle.link_model.specs.Receives.{offset_at}
+use Rattle.link_run.proofs.LinkFacts.{offset-behind}
 use Rattle.link_run.proofs.receiver.offset_of.Goals as goal
 
-pub offset_at-requires-clause-within : goal.offset_at-requires-clause-within
-offset_at-requires-clause-within c =
+pub returns-in-Some : goal.returns-in-Some
+returns-in-Some c = λ first.
     let k = c.args.link.now in
     let p : c.period.result ≡ period k.params = c.period.ensures.value
     ∙ ap period c.shape.ensures.same in
     let low = c.period.ensures.low in
-    let within = edges-within k.params k.timing c.wait.result c.in-Some.phase
-    c.timing-timing.ensures.legal (omega arith) in
-    let waits = c.wait-in-Some.ensures.value ∙ sym c.wait.ensures.value in
-    rw (
-      c.from.ensures,
-      c.from-in-Some.ensures,
-      c.from-in-Some-2.ensures,
-      c.from-in-Some-3.ensures,
-      c.from-in-Some-4.ensures,
-      c.from-in-Some-5.ensures,
-      waits,
-      p,
-      c.tx_edge.ensures.value,
-      c.rx_edge.ensures.value,
-    ) within
+    let sum : c.from.result + c.from-in-Some.result
+    ≡ offset_at k.params k.timing (Some 0) + c.in-Some.phase =
+    ap₂ (λ a b. a + b) (c.from.ensures ∙ first) c.from-in-Some.ensures in
+    let long : c.from-in-Some-2.result ≡ period k.params = c.from-in-Some-2.ensures ∙ p in
+    c.remainder.ensures ∙ ap₂ (λ a b. a % b) sum long
+    ∙ offset-behind k.params k.timing c.in-Some.phase c.timing-timing.ensures.legal (omega arith)
+    ∙ ap (offset_at k.params k.timing) (sym c.in-Some.is)

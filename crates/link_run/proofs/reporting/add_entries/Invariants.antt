@@ -1,13 +1,17 @@
-use Rattle.std.proofs.Common.{◌≡◌, ◌≤◌, ◌+◌, ◌++◌, [], if◌then◌else◌, List, length, Some}
+use Rattle.std.proofs.Common.{◌≡◌, ◌<◌, ◌≤◌, ◌+◌, ◌-◌, ◌*◌, ◌%◌, ◌++◌, [], if◌then◌else◌, List, length, Some}
+use Rattle.link_params.specs.Numbers.{octets_per_tick}
 use Rattle.scenario.specs.Plans.{Plan, plan_of}
 use Rattle.link_run.specs.kept.Printing.{HasPrinted}
 use Rattle.link_model.specs.Report.{Printed, enter_rows, prints_all}
 use Rattle.link_run.proofs.TickRows.{entered_first}
 use Rattle.link_run.proofs.reporting.add_entries.Given as goal
 
-abbrev pub invariant-loop-j : goal.invariant-loop-j
-invariant-loop-j l =
-    let entered = entered_first l.s.shape l.t l.place l.j in
+abbrev pub decreases-loop-next : goal.decreases-loop-next
+decreases-loop-next l = l.per_tick - l.next
+
+abbrev pub invariant-loop-next : goal.invariant-loop-next
+invariant-loop-next l =
+    let entered = entered_first l.s.shape l.t l.place l.next in
     (l.report.totals ≡ record l.fn.report.totals {
       entered = l.fn.report.totals.entered + length entered;
     })
@@ -17,3 +21,5 @@ invariant-loop-j l =
     → HasPrinted l.fn.report plan rows
     → HasPrinted l.report plan (rows ++ (if prints_all plan.print then enter_rows plan
     l.fn.report.totals.entered entered else [])))
+    × ((octets_per_tick l.s.shape * l.place + l.next) % l.s.shape.f ≡ 0)
+    × (l.next < l.per_tick + l.size)

@@ -31,13 +31,10 @@ pub report_tick-requires-clause-some : goal.report_tick-requires-clause-some
 report_tick-requires-clause-some c =
     c.args.s.now.some_words c.args.state.now.link c.requires.link
 
-pub report_tick-requires-clause-words : goal.report_tick-requires-clause-words
-report_tick-requires-clause-words c = λ k d below.
-    let room = room-for (goal.at.report_tick-requires-clause-words c).Start in
-    let words = subst (All (λ (f : Whole). length f.words
-    ≡ c.args.s.now.shape.m * c.args.s.now.shape.s)) (sym c.delivered-begun.ensures.frames)
-    c.tick-seen.ensures.words in
-    rw (words k d below ∙ sym c.requires.size) room
+pub report_tick-requires-clause-octets : goal.report_tick-requires-clause-octets
+report_tick-requires-clause-octets c =
+    subst (All (λ (f : Whole). length f.octets ≡ c.args.s.now.shape.l * c.args.s.now.shape.f))
+    (sym c.delivered-begun.ensures.frames) c.tick-seen.ensures.octets
 
 pub report_tick-requires-clause-begun : goal.report_tick-requires-clause-begun
 report_tick-requires-clause-begun c =

@@ -1,60 +1,81 @@
-use Rattle.std.proofs.Common.{◌∙◌, [], ap, sym, arith}
+use Rattle.std.proofs.Common.{◌≡◌, ℕ, ◌∙◌, [], ap, sym, arith}
+use Rattle.link_params.specs.declared.fields.Params.{Params}
 use Rattle.link_params.specs.Numbers.{octets_per_tick}
 use Rattle.link_run.specs.kept.Gathered.{Gathering}
 use Rattle.link_run.proofs.Gathering.{all-gave, all-taken, none-gave, taken-more, taken-none}
 use Rattle.link_run.proofs.deframer.Deframer.take.Goals as goal
 
-pub loop-j-init : goal.loop-j-init
-loop-j-init c =
+pub loop-taken-init : goal.loop-taken-init
+loop-taken-init c =
     let empty : Gathering → Gathering = λ g. record g { frames = [] } in
-    taken-none _ _ _ (ap empty c.self.view_is)
+    (taken-none _ _ _ (ap empty c.self.view_is), omega arith)
 
-pub loop-j-preserved : goal.loop-j-preserved
-loop-j-preserved c =
+-- the octets of the tick, by what is taken of them
+ticks-of : (now p q : Params) (per_tick : ℕ) → per_tick ≡ octets_per_tick q
+    → q ≡ p → now ≡ p → octets_per_tick now ≡ per_tick
+ticks-of now p q per_tick is own same =
+    ap octets_per_tick (same ∙ sym own) ∙ sym is
+
+pub loop-taken-preserved : goal.loop-taken-preserved
+loop-taken-preserved c =
     let within = c.self.invariant.within in
     let size = ap (λ v. v.params.f) c.self.view_is in
-    taken-more _ _ _ _ _ (omega arith) c.loop-j.invariant c.take_octet.ensures
+    let had = c.loop-taken.invariant.0 in
+    let ticks = ticks-of _ _ _ _ c.self.invariant.ticks (ap (λ v. v.params) c.self.view_is)
+    had.same_params in
+    let fits = c.take_octets-taken.ensures.within in (
+      taken-more _ _ _ _ _ _ (omega arith) had c.take_octets-taken.ensures.gathers,
+      omega arith,
+    )
 
-pub take_octet-requires-clause-lanes : goal.take_octet-requires-clause-lanes
-take_octet-requires-clause-lanes c =
-    c.requires ∙ ap (λ p. p.l) (sym c.loop-j.invariant.same_params)
-
-pub take_octet-requires-clause-j : goal.take_octet-requires-clause-j
-take_octet-requires-clause-j c =
-    let below = c.loop-j-test.true in
-    let ticks = c.self.invariant.ticks ∙ ap (λ v. octets_per_tick v.params) c.self.view_is
-    ∙ ap octets_per_tick (sym c.loop-j.invariant.same_params) in
+pub loop-taken-smaller : goal.loop-taken-smaller
+loop-taken-smaller c =
+    let below = c.loop-taken-test.true in
+    let some = c.take_octets-taken.ensures.gathers.some in
     omega arith
 
-pub take_octet-requires-clause-room : goal.take_octet-requires-clause-room
-take_octet-requires-clause-room c =
-    let below = c.loop-j-test.true in
-    let few = c.loop-j.invariant.few in
-    let ticks = c.self.invariant.ticks ∙ ap (λ v. octets_per_tick v.params) c.self.view_is
-    ∙ ap octets_per_tick (sym c.loop-j.invariant.same_params) in
+pub take_octets-taken-requires-clause-lanes : goal.take_octets-taken-requires-clause-lanes
+take_octets-taken-requires-clause-lanes c =
+    c.requires ∙ ap (λ p. p.l) (sym c.loop-taken.invariant.0.same_params)
+
+pub take_octets-taken-requires-clause-j : goal.take_octets-taken-requires-clause-j
+take_octets-taken-requires-clause-j c =
+    let below = c.loop-taken-test.true in
+    let ticks = ticks-of _ _ _ _ c.self.invariant.ticks (ap (λ v. v.params) c.self.view_is)
+    c.loop-taken.invariant.0.same_params in
     omega arith
 
-pub returns-after-loop-j-clause-nothing : goal.returns-after-loop-j-clause-nothing
-returns-after-loop-j-clause-nothing c = λ lanes none.
+pub take_octets-taken-requires-clause-room : goal.take_octets-taken-requires-clause-room
+take_octets-taken-requires-clause-room c =
+    let below = c.loop-taken-test.true in
+    let few = c.loop-taken.invariant.0.few in
+    let ticks = ticks-of _ _ _ _ c.self.invariant.ticks (ap (λ v. v.params) c.self.view_is)
+    c.loop-taken.invariant.0.same_params in
+    omega arith
+
+pub returns-after-loop-taken-clause-nothing : goal.returns-after-loop-taken-clause-nothing
+returns-after-loop-taken-clause-nothing c = λ lanes none.
     let gave = none-gave c.args.given.now lanes none in
     absurd (cc (c.is_some.ensures, c.if-is_some.true))
 
-pub returns-after-loop-j-clause-goes_on : goal.returns-after-loop-j-clause-goes_on
-returns-after-loop-j-clause-goes_on c = λ p columns column had all.
-    let past = c.loop-j-test.false in
-    let end = c.loop-j.auto.j-end in
+pub returns-after-loop-taken-clause-goes_on : goal.returns-after-loop-taken-clause-goes_on
+returns-after-loop-taken-clause-goes_on c = λ p columns column had all.
+    let past = c.loop-taken-test.false in
+    let end = c.loop-taken.invariant.1 in
     let ticks = c.self.invariant.ticks ∙ ap (λ v. octets_per_tick v.params) c.self.view_is in
-    (all-taken _ _ _ c.loop-j.j p columns column (omega arith) c.loop-j.invariant had all).0
+    (all-taken _ _ _ c.loop-taken.taken p columns column (omega arith) c.loop-taken.invariant.0 had
+    all).0
 
-pub returns-after-loop-j-clause-frames : goal.returns-after-loop-j-clause-frames
-returns-after-loop-j-clause-frames c = λ p columns column had all.
-    let past = c.loop-j-test.false in
-    let end = c.loop-j.auto.j-end in
+pub returns-after-loop-taken-clause-frames : goal.returns-after-loop-taken-clause-frames
+returns-after-loop-taken-clause-frames c = λ p columns column had all.
+    let past = c.loop-taken-test.false in
+    let end = c.loop-taken.invariant.1 in
     let ticks = c.self.invariant.ticks ∙ ap (λ v. octets_per_tick v.params) c.self.view_is in
-    (all-taken _ _ _ c.loop-j.j p columns column (omega arith) c.loop-j.invariant had all).1
+    (all-taken _ _ _ c.loop-taken.taken p columns column (omega arith) c.loop-taken.invariant.0 had
+    all).1
 
-pub returns-after-loop-j-clause-same : goal.returns-after-loop-j-clause-same
-returns-after-loop-j-clause-same c = c.loop-j.invariant.same_params
+pub returns-after-loop-taken-clause-same : goal.returns-after-loop-taken-clause-same
+returns-after-loop-taken-clause-same c = c.loop-taken.invariant.0.same_params
 
 pub returns-else-is_some-clause-goes_on : goal.returns-else-is_some-clause-goes_on
 returns-else-is_some-clause-goes_on c = λ p columns column had all.

@@ -20,7 +20,7 @@ use Rattle.link_run.specs.kept.Gathered.{Gathering, HasGathered}
 use Rattle.lane_threads.specs.kept.LaneRuns.{Pair}
 use Rattle.link_run.specs.kept.LaneRuns.{AreAt}
 use Rattle.link_run.specs.kept.LinkStates.{CanGive, LinkView, columns_left}
-use Rattle.link_run.proofs.GiveFacts.{begun-few, columns-early, columns-late, columns-still, delivered-frames, delivered-nothing, have-words, lane-gave, lane-still, no-words, still-gathered, with_tick}
+use Rattle.link_run.proofs.GiveFacts.{begun-few, columns-early, columns-late, columns-still, delivered-frames, delivered-nothing, have-octets, lane-gave, lane-still, no-octets, still-gathered, with_tick}
 use Rattle.link_run.proofs.LaneStates.{have-same, link-of, plan-there}
 use Rattle.link_run.proofs.Rooms.{IsGood, stepped-entry}
 use Rattle.link_run.proofs.RunFacts.{is-run}
@@ -60,7 +60,7 @@ returns-in-Hunt c = record {
         gathered = rw (c.rest.ensures, columns-still s h r still)
             (still-gathered _ p _ [] can.gathered);
         delivered = rw none (delivered-nothing s h c.rest.new.self.at (delivered-still k s h still));
-        words = rw none (no-words p);
+        octets = rw none (no-octets p);
         begun = rw c.rest.ensures (begun-few s h _ (columns_left s h) r can.gathered);
         given = can.given;
       };
@@ -131,7 +131,7 @@ returns-in-Run-clause-gave c = λ s is.
             gathered = rw (rests, columns-early s h r early) (still-gathered _ p _ [] can.gathered);
             delivered = rw none (delivered-nothing s h c.take.new.self.at
                 (delivered-early k s h r.facts r.legal r.lanes r.octets r.begun r.kept early));
-            words = rw none (no-words p);
+            octets = rw none (no-octets p);
             begun = rw rests (begun-few s h _ (columns_left s h) r can.gathered);
             given = size;
           }
@@ -146,7 +146,7 @@ returns-in-Run-clause-gave c = λ s is.
             lanes = lanes;
             gathered = subst (HasGathered c.take.new.self p) (sym columns) gathered;
             delivered = delivered-frames s h c.take.new.self more r columns frames gathered;
-            words = have-words p (length (columns_left s h)) (columns_left s h ++ more)
+            octets = have-octets p (length (columns_left s h)) (columns_left s h ++ more)
                 c.take.new.self.frames frames;
             begun = begun-few s h c.take.new.self (columns_left s h ++ more) r gathered;
             given = size;

@@ -186,11 +186,11 @@ returns-clause-goes_on c = λ s is.
     (c.give.ensures.gave s is) (c.give.ensures.at s.link.params _ all.at)
     c.give.ensures.same)
 
-pub returns-clause-words : goal.returns-clause-words
-returns-clause-words c =
+pub returns-clause-octets : goal.returns-clause-octets
+returns-clause-octets c =
     let (s, is) = plan-there c.args.s.now c.args.self.now.link c.requires.link in
-    subst (λ p. All (λ (f : Whole). length f.words ≡ p.m * p.s) c.give.new.self.gathering.frames)
-    (same_params c.args.s.now s is) (c.give.ensures.gave s is).words
+    subst (λ p. All (λ (f : Whole). length f.octets ≡ p.l * p.f) c.give.new.self.gathering.frames)
+    (same_params c.args.s.now s is) (c.give.ensures.gave s is).octets
 
 pub returns-clause-begun : goal.returns-clause-begun
 returns-clause-begun c =

@@ -1,4 +1,4 @@
-use Rattle.std.proofs.Common.{◌≡◌, ◌∙◌, ◌+◌, ◌||◌, Bool, not, ℕ, [], length, if◌then◌else◌, sym, ap, ap₂, subst, refl}
+use Rattle.std.proofs.Common.{◌≡◌, ◌∙◌, ◌+◌, ◌||◌, Bool, not, ℕ, [], length, Some, if◌then◌else◌, sym, ap, ap₂, subst, refl}
 use Rattle.link_params.specs.declared.alarms.Device.TheVariants.{Rx}
 use Rattle.link_params.specs.declared.orders.RxOrder.{RxOrder}
 use Rattle.bring_up.specs.kept.Controls.{HasDecided}
@@ -40,13 +40,15 @@ returns c = λ s h is same stands_view at reset.
     (if b then [] else decisions_before s h)) reset_now left in
     let low = c.sync_low.ensures s.link.params s.link.timing _ decided in
     let timing = c.timing.ensures.same ∙ ap (λ k. k.timing) (sym same) in
+    let first = c.self.invariant ∙ ap (λ k. offset_at k.params k.timing (Some 0))
+    (stands.clock.same_link ∙ same) in
     record {
       off = ap (λ x. x.off) told ∙ ap₂ (off s) stands.device at;
       told =
           told-by _ _ _ _ _ _
           (c.either.ensures ∙ ap₂ (λ (a b : Bool). a || b) reset_now stands.hunts)
           (ap not (low ∙ ap (λ x. is_hunting x.stage) (sym (standing-next s h))))
-          (c.offset_of.ensures ∙ ap₂ (λ k x. offset_at k.params k.timing x) (sym same) phase_is);
+          (c.offset_of.ensures first ∙ ap₂ (λ k x. offset_at k.params k.timing x) (sym same) phase_is);
       decides = c.is_at.ensures ∙ ap₂ is_at phase_is (ap (λ t. t.rbd) timing)
           ∙ sym (decides-next (kind_of s.link.params) s h);
       after = record {

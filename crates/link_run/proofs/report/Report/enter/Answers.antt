@@ -1,33 +1,27 @@
-use Rattle.std.proofs.Common.{◌≡◌, ◌++◌, ◌∷◌, [], ◌∙◌, if◌then◌else◌, List, OnOk, ap, arith, subst, sym}
-use Rattle.std.proofs.lemmas.List.{with_items_is}
+use Rattle.std.proofs.Common.{◌≡◌, ℕ, ◌+◌, ◌++◌, ◌∷◌, [], ◌∙◌, if◌then◌else◌, List, OnOk, ap, subst, sym}
 use Rattle.scenario.specs.declared.report_row.Row.TheVariants as row
 use Rattle.scenario.specs.Plans.{source_frame}
-use Rattle.scenario.specs.ReportLines.{line_of}
 use Rattle.link_model.specs.Report.{Printed, prints_all}
 use Rattle.link_run.specs.kept.Printing.{HasPrinted, Printing}
-use Rattle.link_run.proofs.PrintedRows.{link_of_plan, print_of_plan, printed-more, still-ok}
+use Rattle.link_run.proofs.PrintedRows.{print_of_plan, still-printed}
 use Rattle.link_run.proofs.report.Report.enter.Goals as goal
 
 pub returns-in-All-clause-printed : goal.returns-in-All-clause-printed
 returns-in-All-clause-printed c = λ plan rows is printed.
-    let was = ap (λ (v : Printing). v.room) c.self.view_is in
-    let longer = c.line.ensures.room in
-    let kept = ap (λ (v : Printing). v.room) c.put.ensures.same in
-    let number = c.from-number.ensures ∙ ap (λ (v : Printing). v.totals.entered) c.self.view_is in
-    let words = c.deref.ensures.value
-    ∙ with_items_is c.self.inside.words c.source_frame.new.words
-    (c.source_frame.auto.words ∙ c.deref_mut.ensures.len)
-    ∙ c.source_frame.ensures.plan plan is ∙ ap (source_frame plan) number in
-    let x : Printed = record {
+    let entered = c.args.self.now.totals.entered in
+    let number : c.from-number.result ≡ entered =
+    c.from-number.ensures ∙ ap (λ (v : Printing). v.totals.entered) c.self.view_is in
+    let x : ℕ → Printed = λ k. record {
       row = row.Enter c.args.time;
-      words = source_frame plan c.args.self.now.totals.entered;
+      words = source_frame plan k;
     } in
-    let shown : (if prints_all plan.print then x ∷ [] else []) ≡ x ∷ [] =
-    ap (λ p. if prints_all p then x ∷ [] else []) (print_of_plan _ _ plan is ∙ c.in-All.is) in
-    subst (λ (xs : List Printed). OnOk c.put.result (HasPrinted c.put.new.self plan (rows ++ xs)))
-    (sym shown)
-    (still-ok c.put.result c.put.ensures.text
-    (printed-more c.args.self.now c.put.new.self plan rows x c.self.inside.text.items
-    c.line.new.self.bytes printed (ap (λ (v : Printing). v.text) c.self.view_is)
-    (c.line.ensures.line plan.link (link_of_plan _ _ plan is)
-    ∙ ap (line_of plan.link (row.Enter c.args.time)) words) (omega arith)))
+    let shown : (if prints_all plan.print then x entered ∷ [] else []) ≡ x c.from-number.result ∷ [] =
+    ap (λ p. if prints_all p then x entered ∷ [] else []) (print_of_plan _ _ plan is ∙ c.in-All.is)
+    ∙ ap (λ (k : ℕ). x k ∷ []) (sym number) in
+    let counted : Printing → Printing = λ v. record v {
+      totals = record v.totals { entered = v.totals.entered + 1 };
+    } in
+    subst (λ (xs : List Printed). OnOk c.enter_row.result (HasPrinted c.enter_row.new.self plan
+    (rows ++ xs))) (sym shown)
+    (c.enter_row.ensures.printed plan rows is
+    (still-printed _ _ _ plan rows (ap counted c.self.view_is) printed))

@@ -1,0 +1,59 @@
+//! The octets of a frame, lane by lane.
+ghost use Rattle.std.specs.Prelude.{◌≡◌, ◌<◌, ◌≤◌, ◌+◌, ◌-◌, ◌*◌, ◌^◌, ℕ, All, fold, length, replicate};
+ghost use Rattle.link_run.specs.kept.Handed.{with_octets};
+
+/// Sets the number of each lane to 0.
+pub(crate) fn clear(handed: &mut [u64])
+    ensures { handed.new ≡ replicate (length handed.old) 0 }
+{
+    match handed {
+        [only] => *only = 0,
+        _ => handed.fill(0),
+    }
+}
+
+/// Puts `count` octets of each lane, from octet `at` of a frame on, behind the number of the lane.
+/// The frame has `size` octets on a lane.
+#[inline(always)]
+pub(crate) fn add_octets(octets: &[u8], size: usize, at: usize, count: usize, handed: &mut [u64])
+    requires octets { length octets.now ≡ length handed.old * size }
+    requires at { at + count ≤ size }
+    requires few { count ≤ 8 }
+    requires small { All (λ v. v < 256 ^ (8 - count)) handed.old }
+    ensures handed { handed.new ≡ with_octets octets.now size at count handed.old }
+    ensures small { (m : ℕ) → All (λ v. v < m) handed.old
+        → All (λ v. v < m * 256 ^ count) handed.new }
+{
+    for (lane, number) in handed.iter_mut().enumerate() {
+        let start = lane * size + at;
+        *number = joined(*number, &octets[start..start + count]);
+    }
+}
+
+// A number with these octets behind it.
+fn joined(number: u64, octets: &[u8]) -> u64
+    requires few { length octets.now ≤ 8 }
+    requires small { number < 256 ^ (8 - length octets.now) }
+    ensures { result ≡ fold (λ v octet. v * 256 + octet) number octets.now }
+{
+    match octets {
+        [a] => number * 256 + u64::from(*a),
+        [a, b] => number * 65_536 + u64::from(u16::from_be_bytes([*a, *b])),
+        [a, b, c, d] => number * 4_294_967_296 + u64::from(u32::from_be_bytes([*a, *b, *c, *d])),
+        [a, b, c, d, e, f, g, h] => u64::from_be_bytes([*a, *b, *c, *d, *e, *f, *g, *h]),
+        _ => joined_each(number, octets),
+    }
+}
+
+// The same, an octet at a time.
+fn joined_each(number: u64, octets: &[u8]) -> u64
+    requires few { length octets.now ≤ 8 }
+    requires small { number < 256 ^ (8 - length octets.now) }
+    ensures { result ≡ fold (λ v octet. v * 256 + octet) number octets.now }
+{
+    let mut all = number;
+    for octet in octets {
+        all = all * 256 + u64::from(*octet);
+    }
+    all
+}
