@@ -3,7 +3,10 @@
 #![tactic(auto)]
 
 use jesd_base::{MemSink, MemSource, Status};
+use lane_threads::NoGate;
 use link_bench::bench;
+use std::alloc::Global;
+use std::thread::Threads;
 use std::{fs, io};
 
 /// Room for what the bench writes for an example.
@@ -33,22 +36,44 @@ fn job_of(name: &str) -> &'static str {
     }
 }
 
-/// The status of an example's job, and whether what it writes is what is stored.
-fn compare(rt: &HostRuntime, name: &str) -> io::Result<(Status, bool)> {
+/// The files of an example: its input, and what is stored.
+fn files_of(rt: &HostRuntime, name: &str) -> io::Result<(Vec<u8>, Vec<u8>)> {
     let alloc = rt.alloc();
     let input = fs::read(rt, format!(in alloc; "{name}.csv")?.as_str())?;
     let stored = fs::read(rt, format!(in alloc; "{name}.out")?.as_str())?;
+    Ok((input, stored))
+}
+
+/// The status of an example's job, and whether what it writes is what is stored.
+fn compare<R: Threads + Sync>(
+    rt: &R,
+    alloc: Global,
+    name: &str,
+    input: Vec<u8>,
+    stored: &[u8],
+) -> io::Result<(Status, bool)> {
     let Ok(mut sink) = MemSink::open(alloc, ROOM, ROOM, Vec::new(alloc)) else {
         return Err(io::Error::from(io::ErrorKind::OutOfMemory));
     };
     let mut source = MemSource::new(input, ROOM, Vec::new(alloc));
-    let status = bench(alloc, &[job_of(name)], &mut source, &mut sink);
-    Ok((status, sink.bytes() == stored.as_slice()))
+    let mut kept = None;
+    let words = [job_of(name)];
+    let status = bench(
+        rt,
+        alloc,
+        &words,
+        &mut source,
+        &mut sink,
+        &NoGate,
+        &mut kept,
+    );
+    Ok((status, sink.bytes() == stored))
 }
 
 fn main(rt: HostRuntime) -> io::Result<()> {
     for name in example_names(&rt)? {
-        let (status, same) = compare(&rt, &name)?;
+        let (input, stored) = files_of(&rt, &name)?;
+        let (status, same) = compare(&rt, rt.alloc(), &name, input, &stored)?;
         let told = if same { "as stored" } else { "NOT AS STORED" };
         println!(rt; "{name}: {status:?}, {told}")?;
     }

@@ -1,8 +1,7 @@
 -- What was read, and the causes of answers.
-use Rattle.std.proofs.Common.{◌≡◌, ◌∙◌, ◌≤◌, ℕ, ◌+◌, Bool, true, false, if◌then◌else◌, nat_lt, List, length, length-append, ◌++◌, inl, inr, Option, Some, None, Ok, Err, IsTrue, is_some, refl, sym, ap, arith}
+use Rattle.std.proofs.Common.{◌≡◌, ◌∙◌, ◌≤◌, ℕ, ◌+◌, Bool, true, false, List, length, length-append, ◌++◌, inl, inr, Option, Some, None, Ok, Err, IsTrue, is_some, refl, sym, ap, arith}
 use Rattle.std.specs.Prelude.{Result}
 use Rattle.std.proofs.lemmas.List.{append-nil}
-use Rattle.std.proofs.lemmas.Bool.{ltb-true, ltb-false}
 use Rattle.link_params.specs.Links.{Link}
 use Rattle.jesd_base.specs.Streams.{Gave, IsAtEnd}
 use Rattle.jesd_base.specs.declared.status.Status.{Status}
@@ -12,15 +11,18 @@ use Rattle.scenario.specs.declared.kind.Job.TheVariants as job
 use Rattle.scenario.specs.declared.scenario_type.Scenario.{Scenario}
 use Rattle.scenario.specs.declared.fault.ScenarioFault.TheVariants as failed
 use Rattle.scenario.specs.Answer.{Answers}
-use Rattle.scenario.specs.Plans.{Plan, plan_of, plan_with}
+use Rattle.scenario.specs.Plans.{Plan, plan_of, plan_read, plan_with}
 use Rattle.scenario.specs.Reads.{Seen, Refusal, bad_at, reads}
 use Rattle.scenario.specs.Generated.{generated}
 use Rattle.link_bench.specs.declared.asked.Asked.{Asked}
 use Rattle.link_bench.specs.declared.asked.Asked.TheVariants.{Input, Generated}
-use Rattle.link_bench.specs.Jobs.{IsText, alarms_in, alarms_in_any, alarms_of, bad_line, first_and_last, usage}
+use Rattle.link_model.specs.Kinds.{report_of}
+use Rattle.link_model.specs.Report.{lines, report}
+use Rattle.link_run.specs.Rows.{HasWritten, rows_handed}
+use Rattle.link_bench.specs.Jobs.{IsText, alarms_in_any, alarms_of, bad_line, usage}
 use Rattle.link_bench.specs.Causes.{Causes, Ends, IsComplete, IsDone, OnInput, OnPlan, OnRefusal, ReadNothing, ReadWhole, WrotePrefix}
-use Rattle.link_bench.specs.kept.Written.{IsWritten}
-use Rattle.link_bench.specs.kept.Scenarios.{IsLines, alarms_for}
+use Rattle.link_bench.specs.kept.Written.{IsRunWritten, IsWritten}
+use Rattle.link_bench.specs.kept.Scenarios.{DoesScenario, IsLines, IsTextWritten}
 
 -- a scenario with a link has a plan
 pub plan-some : (s : Scenario) → IsTrue (is_some s.link) → (plan : Plan) × (plan_of s ≡ Some plan)
@@ -30,17 +32,6 @@ plan-some s e = planned s.link s e
         → (plan : Plan) × (plan_with o s ≡ Some plan)
     planned None s e = cc e
     planned (Some k) s e = (_, refl)
-
--- an accepted input, its alarms, and the lines of its scenario
-pub read-ok : (due : Result Seen Refusal) (s : Scenario) (j : Job) (text : List ℕ)
-    → Answers due (Ok s) → IsLines j s text
-    → (seen : Seen) × (due ≡ Ok seen) × (alarms_for j s ≡ alarms_of j seen) × IsText j seen text
-read-ok (Ok seen) s job.Map text a lines = (seen, refl, refl, (s.shape, a.shape, rw a.words lines))
-read-ok (Ok seen) s job.Unmap text a lines =
-    (seen, refl, refl, (s.shape, a.shape, rw a.octets lines))
-read-ok (Ok seen) s job.Run text a (plan, is, lines) =
-    (seen, refl, ap alarms_in_any (sym a.plan), (plan, a.plan ∙ is, lines))
-read-ok (Err b) s j text a lines = absurd a
 
 -- a refused input
 pub read-bad : (due : Result Seen Refusal) (r c a : ℕ) → Answers due (Err (failed.Bad r c a))
@@ -58,15 +49,13 @@ usage-written status old new unread (inl whole) = rw whole.status_due (unread, w
 usage-written status old new unread (inr cut) =
     rw cut.status_fault (cut.rose, unread, record { count = cut.count; prefix = cut.prefix })
 
--- the lines of a job
-pub lines-written : (j : Job) (status : Status) (old new : Ends) (bytes : List ℕ) (seen : Seen)
-    (alarmed : Bool) (text : List ℕ)
-    → ReadWhole old new bytes → reads j bytes ≡ Ok seen → alarmed ≡ nat_lt 0 (alarms_of j seen)
-    → IsText j seen text
-    → IsWritten (if alarmed then Alarmed else Done) status text old.written new.written
-    old.writes_failed new.writes_failed
+-- the text of a job that raises no alarm
+text-written : (j : Job) (status : Status) (old new : Ends) (bytes : List ℕ) (seen : Seen)
+    (text : List ℕ)
+    → ReadWhole old new bytes → reads j bytes ≡ Ok seen → alarms_of j seen ≡ 0 → IsText j seen text
+    → IsWritten Done status text old.written new.written old.writes_failed new.writes_failed
     → OnInput j status old new
-lines-written j status old new bytes seen true text read accepted alarms due (inl whole) =
+text-written j status old new bytes seen text read accepted none due (inl whole) =
     let here : IsDone j old new seen = record {
       bytes = bytes;
       whole = read;
@@ -75,21 +64,104 @@ lines-written j status old new bytes seen true text read accepted alarms due (in
       due = due;
       wrote = whole.added;
     } in
-    rw whole.status_due (seen, ltb-true 0 _ (sym alarms), here)
-lines-written j status old new bytes seen false text read accepted alarms due (inl whole) =
-    let here : IsDone j old new seen = record {
-      bytes = bytes;
-      whole = read;
-      accepted = accepted;
-      text = text;
-      due = due;
-      wrote = whole.added;
-    } in
-    let few : alarms_of j seen ≤ 0 = ltb-false 0 _ (sym alarms) in
-    rw whole.status_due (seen, omega arith, here)
-lines-written j status old new bytes seen alarmed text read accepted alarms due (inr cut) =
+    rw whole.status_due (seen, none, here)
+text-written j status old new bytes seen text read accepted none due (inr cut) =
     let front : WrotePrefix old new text = record { count = cut.count; prefix = cut.prefix } in
     rw cut.status_fault (cut.rose, bytes, read, text, rw accepted due, front)
+
+-- the same, where there may have been no memory for it
+text-done : (j : Job) (s : Scenario) (status : Status) (old new : Ends) (bytes : List ℕ)
+    (seen : Seen)
+    → ReadWhole old new bytes → reads j bytes ≡ Ok seen → alarms_of j seen ≡ 0
+    → ((text : List ℕ) → IsLines j s text → IsText j seen text)
+    → IsTextWritten j s status old.written new.written old.writes_failed new.writes_failed
+    → OnInput j status old new
+text-done j s NoMemory old new bytes seen read accepted none due came = came
+text-done j s Done old new bytes seen read accepted none due (text, lines, came) =
+    text-written j Done old new bytes seen text read accepted none (due text lines) came
+text-done j s Alarmed old new bytes seen read accepted none due (text, lines, came) =
+    text-written j Alarmed old new bytes seen text read accepted none (due text lines) came
+text-done j s BadWords old new bytes seen read accepted none due (text, lines, came) =
+    text-written j BadWords old new bytes seen text read accepted none (due text lines) came
+text-done j s BadScenario old new bytes seen read accepted none due (text, lines, came) =
+    text-written j BadScenario old new bytes seen text read accepted none (due text lines) came
+text-done j s ReadFault old new bytes seen read accepted none due (text, lines, came) =
+    text-written j ReadFault old new bytes seen text read accepted none (due text lines) came
+text-done j s WriteFault old new bytes seen read accepted none due (text, lines, came) =
+    text-written j WriteFault old new bytes seen text read accepted none (due text lines) came
+text-done j s TooLong old new bytes seen read accepted none due (text, lines, came) =
+    text-written j TooLong old new bytes seen text read accepted none (due text lines) came
+
+-- the lines of all rows are the report
+report-lines : (s : Plan) → lines s (rows_handed s false) ≡ report_of s
+unfolding report
+report-lines s = refl
+
+-- the lines of the run of a plan that an input spells
+run-done : (status : Status) (old new : Ends) (bytes : List ℕ) (seen : Seen) (plan : Plan)
+    → ReadWhole old new bytes → reads job.Run bytes ≡ Ok seen → plan_read seen ≡ Some plan
+    → IsRunWritten status plan false old.written new.written old.writes_failed new.writes_failed
+    → OnInput job.Run status old new
+run-done Done old new bytes seen plan read accepted is (none, wrote) = (
+  seen,
+  ap alarms_in_any is ∙ none,
+  record {
+    bytes = bytes;
+    whole = read;
+    accepted = accepted;
+    text = lines plan (rows_handed plan false);
+    due = (plan, is, report-lines plan);
+    wrote = wrote;
+  },
+)
+run-done Alarmed old new bytes seen plan read accepted is (some, wrote) = (
+  seen,
+  rw is some,
+  record {
+    bytes = bytes;
+    whole = read;
+    accepted = accepted;
+    text = lines plan (rows_handed plan false);
+    due = (plan, is, report-lines plan);
+    wrote = wrote;
+  },
+)
+run-done WriteFault old new bytes seen plan read accepted is (rose, count, prefix) = (
+  rose,
+  bytes,
+  read,
+  lines plan (rows_handed plan false),
+  rw accepted (plan, is, report-lines plan),
+  record { count = count; prefix = prefix },
+)
+run-done NoMemory old new bytes seen plan read accepted is came = came
+run-done BadWords old new bytes seen plan read accepted is came = absurd came
+run-done BadScenario old new bytes seen plan read accepted is came = absurd came
+run-done ReadFault old new bytes seen plan read accepted is came = absurd came
+run-done TooLong old new bytes seen plan read accepted is came = absurd came
+
+-- a job on a scenario that was read
+does-read : (due : Result Seen Refusal) (j : Job) (s : Scenario) (status : Status) (old new : Ends)
+    (bytes : List ℕ)
+    → ReadWhole old new bytes → reads j bytes ≡ due → Answers due (Ok s)
+    → DoesScenario j s status old.written new.written old.writes_failed new.writes_failed
+    → OnInput j status old new
+does-read (Ok seen) job.Map s status old new bytes read accepted a came =
+    text-done job.Map s status old new bytes seen read accepted refl
+    (λ text lines. (s.shape, a.shape, rw a.words lines)) came
+does-read (Ok seen) job.Unmap s status old new bytes read accepted a came =
+    text-done job.Unmap s status old new bytes seen read accepted refl
+    (λ text lines. (s.shape, a.shape, rw a.octets lines)) came
+does-read (Ok seen) job.Run s status old new bytes read accepted a (plan, is, came) =
+    run-done status old new bytes seen plan read accepted (a.plan ∙ is) came
+does-read (Err b) j s status old new bytes read accepted a came = absurd a
+
+pub scenario-done : (j : Job) (s : Scenario) (status : Status) (old new : Ends) (bytes : List ℕ)
+    → ReadWhole old new bytes → Answers (reads j bytes) (Ok s)
+    → DoesScenario j s status old.written new.written old.writes_failed new.writes_failed
+    → OnInput j status old new
+scenario-done j s status old new bytes read a came =
+    does-read (reads j bytes) j s status old new bytes read refl a came
 
 -- the line of a refused input
 pub refusal-written : (j : Job) (status : Status) (old new : Ends) (bytes : List ℕ) (b : Refusal)
@@ -104,20 +176,51 @@ refusal-written j status old new bytes b text read bad is (inr cut) =
     rw cut.status_fault (cut.rose, bytes, read, text, rw bad is, front)
 
 -- the two lines of a plan's run
-pub two_lines-written : (plan : Plan) (status : Status) (old new : Ends) (alarmed : Bool)
-    (text : List ℕ)
-    → ReadNothing old new → alarmed ≡ nat_lt 0 (alarms_in plan) → text ≡ first_and_last plan
-    → IsWritten (if alarmed then Alarmed else Done) status text old.written new.written
-    old.writes_failed new.writes_failed
+pub plan-done : (plan : Plan) (status : Status) (old new : Ends) → ReadNothing old new
+    → IsRunWritten status plan true old.written new.written old.writes_failed new.writes_failed
     → OnPlan plan status old new
-two_lines-written plan status old new true text unread alarms is (inl whole) =
-    rw whole.status_due (ltb-true 0 _ (sym alarms), unread, rw (← is) whole.added)
-two_lines-written plan status old new false text unread alarms is (inl whole) =
-    let few : alarms_in plan ≤ 0 = ltb-false 0 _ (sym alarms) in
-    rw whole.status_due (omega arith, unread, rw (← is) whole.added)
-two_lines-written plan status old new alarmed text unread alarms is (inr cut) =
-    let front : WrotePrefix old new text = record { count = cut.count; prefix = cut.prefix } in
-    rw cut.status_fault (cut.rose, unread, rw (← is) front)
+plan-done plan Done old new unread (none, wrote) = (none, unread, wrote)
+plan-done plan Alarmed old new unread (some, wrote) = (some, unread, wrote)
+plan-done plan WriteFault old new unread (rose, count, prefix) =
+    (rose, unread, record { count = count; prefix = prefix })
+plan-done plan NoMemory old new unread came = (unread, came)
+plan-done plan BadWords old new unread came = absurd came
+plan-done plan BadScenario old new unread came = absurd came
+plan-done plan ReadFault old new unread came = absurd came
+plan-done plan TooLong old new unread came = absurd came
+
+-- a text of a scenario was written
+pub scenario-text : (j : Job) (s : Scenario) (status : Status) (text : List ℕ)
+    (old new : Option (List ℕ)) (old_faults new_faults : ℕ)
+    → IsLines j s text → IsWritten Done status text old new old_faults new_faults
+    → IsTextWritten j s status old new old_faults new_faults
+scenario-text j s status text old new old_faults new_faults lines (inl whole) =
+    rw whole.status_due (text, lines, inl (record { status_due = refl; added = whole.added }))
+scenario-text j s status text old new old_faults new_faults lines (inr cut) =
+    rw cut.status_fault (
+      text,
+      lines,
+      inr (record {
+        status_fault = refl;
+        rose = cut.rose;
+        count = cut.count;
+        prefix = cut.prefix;
+      }),
+    )
+
+-- what a run of a plan wrote
+pub run-written : (status : Status) (plan : Plan) (short : Bool) (old new : Option (List ℕ))
+    (old_faults new_faults : ℕ)
+    → HasWritten status plan short old new old_faults new_faults
+    → IsRunWritten status plan short old new old_faults new_faults
+run-written NoMemory plan short old new old_faults new_faults came = absurd came
+run-written Done plan short old new old_faults new_faults came = came
+run-written Alarmed plan short old new old_faults new_faults came = came
+run-written BadWords plan short old new old_faults new_faults came = came
+run-written BadScenario plan short old new old_faults new_faults came = came
+run-written ReadFault plan short old new old_faults new_faults came = came
+run-written WriteFault plan short old new old_faults new_faults came = came
+run-written TooLong plan short old new old_faults new_faults came = came
 
 -- ---- completeness
 

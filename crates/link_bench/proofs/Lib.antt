@@ -1,4 +1,4 @@
 pub mod LineLemmas
 pub mod RunRead
 pub mod CauseLemmas
-pub mod GeneratedLemmas
+pub mod KeptLemmas

@@ -9,7 +9,8 @@ use Rattle.scenario.specs.Plans.{Plan}
 use Rattle.scenario.specs.Generated.{generated}
 use Rattle.link_bench.specs.declared.asked.Asked.{Asked}
 use Rattle.link_bench.specs.declared.asked.Asked.TheVariants.{Input, Generated}
-use Rattle.link_bench.specs.Jobs.{usage, limit, bad_line, alarms_in, alarms_of, first_and_last, IsText, IsDue}
+use Rattle.link_run.specs.Rows.{alarms_in}
+use Rattle.link_bench.specs.Jobs.{usage, limit, bad_line, alarms_of, first_and_last, IsText, IsDue}
 
 -- both ends of a call: what the source has left, what the sink holds, where they tell it, and how
 -- often each failed

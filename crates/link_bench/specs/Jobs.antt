@@ -1,5 +1,5 @@
 -- What the words ask for, and what is due for an input.
-use Rattle.std.specs.Prelude.{◌≡◌, ℕ, List, ◌++◌, ◌-◌, length, take, drop, Option, Some, None, Result, Ok, Err, codes, decimal, option_map}
+use Rattle.std.specs.Prelude.{◌≡◌, ℕ, true, List, ◌++◌, Option, Some, None, Result, Ok, Err, codes, decimal, option_map}
 use Rattle.link_params.specs.declared.fields.Params.{Params}
 use Rattle.bench_words.specs.Reading.{asked_by_words}
 use Rattle.bench_words.specs.declared.asked.Task.{Task}
@@ -10,8 +10,9 @@ use Rattle.scenario.specs.declared.kind.Job.TheVariants as job
 use Rattle.scenario.specs.Answer.{shape_of}
 use Rattle.scenario.specs.Plans.{Plan, plan_read}
 use Rattle.scenario.specs.Reads.{Seen, Refusal, reads}
-use Rattle.link_model.specs.Kinds.{report_of, run_of}
-use Rattle.link_model.specs.Report.{Printed, lines, rows, totals}
+use Rattle.link_model.specs.Kinds.{report_of}
+use Rattle.link_model.specs.Report.{lines}
+use Rattle.link_run.specs.Rows.{alarms_in, rows_handed}
 use Rattle.link_bench.specs.declared.asked.Asked.{Asked}
 use Rattle.link_bench.specs.declared.asked.Asked.TheVariants.{Input, Generated}
 use Rattle.link_bench.specs.Lines.{IsMapped, IsUnmapped}
@@ -49,10 +50,6 @@ IsText job.Unmap seen text = (p : Params) × (shape_of seen.stage ≡ Some p)
 IsText job.Run seen text = (plan : Plan) × (plan_read seen ≡ Some plan)
     × (text ≡ report_of plan)
 
--- how many alarms the run of a plan raises
-abbrev pub alarms_in : Plan → ℕ
-alarms_in plan = (totals plan (run_of plan plan.ticks)).alarms
-
 -- none where there is no plan
 abbrev pub alarms_in_any : Option Plan → ℕ
 alarms_in_any None = 0
@@ -72,10 +69,6 @@ IsDueFor j (Err b) text = text ≡ bad_line b
 abbrev pub IsDue : Job → List ℕ → List ℕ → Type 0
 IsDue j bytes text = IsDueFor j (reads j bytes) text
 
--- the first row and the last one
-abbrev pub first_and_last_rows : List Printed → List Printed
-first_and_last_rows all = take 1 all ++ drop (length all - 1) all
-
 -- the first line and the last line of the report of a plan's run
 abbrev pub first_and_last : Plan → List ℕ
-first_and_last plan = lines plan (first_and_last_rows (rows plan (run_of plan plan.ticks)))
+first_and_last plan = lines plan (rows_handed plan true)

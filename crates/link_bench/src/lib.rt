@@ -4,7 +4,8 @@
 //! ```text
 //! let mut input = StdSource::new(rt.stdin());
 //! let mut out = StdSink::new(rt.stdout());
-//! let status = bench(rt.alloc(), &words, &mut input, &mut out);
+//! let mut kept = None;
+//! let status = bench(&rt, rt.alloc(), &words, &mut input, &mut out, &NoGate, &mut kept);
 //! ```
 #![tactic(auto)]
 
@@ -24,6 +25,8 @@ mod tests_generated;
 mod tests_lanes;
 #[cfg(test)]
 mod tests_run;
+#[cfg(test)]
+mod tests_workers;
 mod top;
 mod written;
 

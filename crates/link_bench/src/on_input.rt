@@ -1,52 +1,59 @@
 //! The jobs on an input: `map`, `unmap` and `run`.
-ghost use Rattle.std.specs.Prelude.{◌≡◌, nat_lt, IfOk, string_bytes};
-ghost use Rattle.scenario.specs.declared.kind.Job.TheVariants as job;
+ghost use Rattle.std.specs.Prelude.{◌≡◌, ◌<◌, IfOk, Some, string_bytes};
 ghost use Rattle.scenario.specs.Reads.{bad_at};
 ghost use Rattle.link_bench.specs.Jobs.{bad_line};
-ghost use Rattle.link_bench.specs.kept.Scenarios.{IsLines, IsReady, alarms_for};
+ghost use Rattle.link_bench.specs.kept.Scenarios.{DoesScenario, IsKeptOf, IsReady};
+ghost use Rattle.link_bench.specs.declared.asked.Asked.TheVariants as asked;
+ghost use Rattle.link_bench.specs.KeptBench.{IsKept};
 ghost use Rattle.link_bench.specs.Causes.{OnInput, ends};
 
 use crate::lines::{mapped, unmapped};
 use crate::link::run_link;
-use crate::written::{Lines, write_text};
-use jesd_base::{NoMemory, ReadAll, Sink, Source, Status, read_all};
-use link_run::Ran;
+use crate::written::write_text;
+use jesd_base::{ReadAll, Sink, Source, Status, read_all};
+use lane_threads::Gate;
+use link_run::Bench;
 use scenario::{Input, Job, Scenario, ScenarioFault, read_scenario};
 use std::alloc::{AllocError, Global};
+use std::thread::Threads;
 
 const LIMIT: usize = 4_194_304;
 
 /// Reads the input to its end, does the job, and writes its lines.
-pub(crate) fn do_job<S: Source, K: Sink>(
+pub(crate) fn do_job<R: Threads + Sync, S: Source, K: Sink, G: Gate>(
+    rt: &R,
     alloc: Global,
     job: Job,
+    workers: u32,
     input: &mut S,
     out: &mut K,
-) -> Status
-    ensures { OnInput job result
+    gate: &G,
+) -> (Status, Option<Bench>)
+    requires workers { 0 < workers }
+    ensures keeps { IsKept result.0 (Some (asked.Input job)) workers
+        (ends (S.left input.old) (K.written out.old) (S.faults input.old) (K.faults out.old))
+        (ends (S.left input.new) (K.written out.new) (S.faults input.new) (K.faults out.new))
+        result.1 }
+    ensures cause { OnInput job result.0
         (ends (S.left input.old) (K.written out.old) (S.faults input.old) (K.faults out.old))
         (ends (S.left input.new) (K.written out.new) (S.faults input.new) (K.faults out.new)) }
 {
     let bytes = match read_all(alloc, input, LIMIT) {
         Ok(bytes) => bytes,
-        Err(ReadAll::TooLong) => return Status::TooLong,
-        Err(ReadAll::ReadFault) => return Status::ReadFault,
-        Err(ReadAll::NoMemory) => return Status::NoMemory,
+        Err(ReadAll::TooLong) => return (Status::TooLong, None),
+        Err(ReadAll::ReadFault) => return (Status::ReadFault, None),
+        Err(ReadAll::NoMemory) => return (Status::NoMemory, None),
     };
     match read_scenario(alloc, job, &bytes) {
-        Ok(scenario) => {
-            let Ok(lines) = text_of(alloc, job, &scenario) else {
-                return Status::NoMemory;
-            };
-            lines.write(out)
-        }
+        Ok(scenario) => do_scenario(rt, alloc, job, scenario, workers, out, gate),
         Err(ScenarioFault::Bad { row, cause, at }) => {
             let Ok(line) = refusal_line(alloc, row, cause, at) else {
-                return Status::NoMemory;
+                return (Status::NoMemory, None);
             };
-            write_text(out, line.as_bytes(), Status::BadScenario)
+            let status = write_text(out, line.as_bytes(), Status::BadScenario);
+            (status, None)
         }
-        Err(ScenarioFault::NoMemory) => Status::NoMemory,
+        Err(ScenarioFault::NoMemory) => (Status::NoMemory, None),
     }
 }
 
@@ -57,12 +64,22 @@ fn refusal_line(alloc: Global, row: u32, cause: u8, at: u32) -> Result<String, A
     format!(in alloc; "bad,{row},{cause},{at}\n")
 }
 
-/// The lines of a scenario, and whether its run raised alarms.
-fn text_of(alloc: Global, job: Job, scenario: &Scenario) -> Result<Lines, NoMemory>
-    requires { IsReady job scenario.now }
-    ensures text { IfOk result (λ lines. IsLines job scenario.now lines.text.items) }
-    ensures alarmed { IfOk result
-        (λ lines. lines.alarmed ≡ nat_lt 0 (alarms_for job scenario.now)) }
+/// Does the job on a scenario, and writes its lines. The bench that ran is there where the job is a
+/// run and is done.
+fn do_scenario<R: Threads + Sync, K: Sink, G: Gate>(
+    rt: &R,
+    alloc: Global,
+    job: Job,
+    scenario: Scenario,
+    workers: u32,
+    out: &mut K,
+    gate: &G,
+) -> (Status, Option<Bench>)
+    requires ready { IsReady job scenario }
+    requires workers { 0 < workers }
+    ensures cause { DoesScenario job scenario result.0 (K.written out.old) (K.written out.new)
+        (K.faults out.old) (K.faults out.new) }
+    ensures kept { IsKeptOf job scenario workers result.0 result.1 }
 {
     let text = match job {
         Job::Map => match &scenario.input {
@@ -70,27 +87,10 @@ fn text_of(alloc: Global, job: Job, scenario: &Scenario) -> Result<Lines, NoMemo
             Input::Ramp { .. } => mapped(alloc, &scenario.shape, &[]),
         },
         Job::Unmap => unmapped(alloc, &scenario.shape, &scenario.octets),
-        Job::Run => return run_lines(alloc, scenario),
+        Job::Run => return run_link(rt, alloc, scenario, workers, out, gate, false),
     };
     match text {
-        Ok(text) => Ok(Lines {
-            text,
-            alarmed: false,
-        }),
-        Err(_) => Err(NoMemory),
+        Ok(text) => (write_text(out, &text, Status::Done), None),
+        Err(_) => (Status::NoMemory, None),
     }
-}
-
-/// The report of a scenario's run, and whether it raised alarms.
-fn run_lines(alloc: Global, scenario: &Scenario) -> Result<Lines, NoMemory>
-    requires { IsReady job.Run scenario.now }
-    ensures text { IfOk result (λ lines. IsLines job.Run scenario.now lines.text.items) }
-    ensures alarmed { IfOk result
-        (λ lines. lines.alarmed ≡ nat_lt 0 (alarms_for job.Run scenario.now)) }
-{
-    let Ran { text, totals } = run_link(alloc, scenario)?;
-    Ok(Lines {
-        text,
-        alarmed: totals.alarms > 0,
-    })
 }

@@ -1,11 +1,26 @@
 //! Tests of the top call: worked examples, and a fault at each call of the source and of the sink.
 use crate::bench;
 use jesd_base::{MemSink, MemSource, Status};
+use lane_threads::NoGate;
 use std::alloc::Global;
 use std::test::Fail;
+use std::thread::Threads;
+
+/// The status of these words, of which nothing is kept.
+pub(crate) fn answer<R: Threads + Sync>(
+    rt: &R,
+    alloc: Global,
+    words: &[&str],
+    source: &mut MemSource,
+    sink: &mut MemSink,
+) -> Status {
+    let mut kept = None;
+    bench(rt, alloc, words, source, sink, &NoGate, &mut kept)
+}
 
 /// What comes of `words` on `input`: the status and the bytes written.
-pub(crate) fn outcome(
+pub(crate) fn outcome<R: Threads + Sync>(
+    rt: &R,
     alloc: Global,
     words: &[&str],
     input: &[u8],
@@ -14,7 +29,7 @@ pub(crate) fn outcome(
     let mut sink = MemSink::open(alloc, 4096, 4096, Vec::new(alloc))
         .ok()
         .ok_or("no memory")?;
-    let status = bench(alloc, words, &mut source, &mut sink);
+    let status = answer(rt, alloc, words, &mut source, &mut sink);
     Ok((status, sink.bytes().to_vec(alloc)?))
 }
 
@@ -118,7 +133,7 @@ fn worked_examples(rt: HostRuntime) -> Result<(), Fail> {
         ),
     ];
     for (at, (words, input, status, text)) in table.iter().enumerate() {
-        let (got, written) = outcome(alloc, words, input)?;
+        let (got, written) = outcome(&rt, alloc, words, input)?;
         assert_eq!(rt; got, *status, "at {at}");
         assert_eq!(rt; written.as_slice(), *text, "at {at}");
     }
@@ -137,7 +152,7 @@ fn a_source_that_fails_on_each_call(rt: HostRuntime) -> Result<(), Fail> {
             let mut sink = MemSink::open(alloc, 99, 99, Vec::new(alloc))
                 .ok()
                 .ok_or("no memory")?;
-            let status = bench(alloc, &["map"], &mut source, &mut sink);
+            let status = answer(&rt, alloc, &["map"], &mut source, &mut sink);
             if call < calls {
                 assert_eq!(rt; status, Status::ReadFault, "piece {piece}, call {call}");
                 assert_eq!(rt; sink.bytes().len(), 0);
@@ -159,7 +174,7 @@ fn a_sink_that_fails_on_each_call(rt: HostRuntime) -> Result<(), Fail> {
         let fails = vec![in alloc; call]?;
         let mut source = MemSource::new(TWELVE_BITS.to_vec(alloc)?, 4096, Vec::new(alloc));
         let mut sink = MemSink::open(alloc, 99, 8, fails).ok().ok_or("no memory")?;
-        let status = bench(alloc, &["map"], &mut source, &mut sink);
+        let status = answer(&rt, alloc, &["map"], &mut source, &mut sink);
         let (want, due) = if call < 3 {
             (Status::WriteFault, &line[..8 * call as usize])
         } else {
@@ -183,7 +198,7 @@ fn one_byte_above_the_limit(rt: HostRuntime) -> Result<(), Fail> {
         .ok()
         .ok_or("no memory")?;
     assert_eq!(rt;
-        bench(alloc, &["map"], &mut source, &mut sink),
+        answer(&rt, alloc, &["map"], &mut source, &mut sink),
         Status::TooLong
     );
     assert_eq!(rt; sink.bytes().len(), 0);

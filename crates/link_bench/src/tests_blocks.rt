@@ -44,7 +44,7 @@ const TABLE: [Row; 6] = [
 fn runs_of_blocks(rt: HostRuntime) -> Result<(), Fail> {
     let alloc = rt.alloc();
     for (at, (input, text)) in TABLE.iter().enumerate() {
-        let (got, written) = outcome(alloc, &["run"], input)?;
+        let (got, written) = outcome(&rt, alloc, &["run"], input)?;
         assert_eq!(rt; got, Status::Done, "at {at}");
         assert_eq!(rt; written.as_slice(), *text, "at {at}");
     }

@@ -1,16 +1,22 @@
 //! Tests of the job `gen`: numbers with the lines of a program that shares no code with this one,
 //! an input that is not read, and a sink that fails.
-use crate::bench;
+use crate::tests::answer;
 use jesd_base::{MemSink, MemSource, Status};
 use std::alloc::Global;
 use std::test::Fail;
+use std::thread::Threads;
 
 /// What comes of `words`: the status and the bytes written, by a sink that takes pieces of 8 bytes
 /// and fails on the calls in `fails`. The source fails on its first call.
-fn outcome(alloc: Global, words: &[&str], fails: Vec<u32>) -> Result<(Status, Vec<u8>), Fail> {
+fn outcome<R: Threads + Sync>(
+    rt: &R,
+    alloc: Global,
+    words: &[&str],
+    fails: Vec<u32>,
+) -> Result<(Status, Vec<u8>), Fail> {
     let mut source = MemSource::new(b"jesd,1\n".to_vec(alloc)?, 4096, vec![in alloc; 0u32]?);
     let mut sink = MemSink::open(alloc, 999, 8, fails).ok().ok_or("no memory")?;
-    let status = bench(alloc, words, &mut source, &mut sink);
+    let status = answer(rt, alloc, words, &mut source, &mut sink);
     Ok((status, sink.bytes().to_vec(alloc)?))
 }
 
@@ -72,7 +78,7 @@ const TABLE: [Row; 8] = [
 fn numbers(rt: HostRuntime) -> Result<(), Fail> {
     let alloc = rt.alloc();
     for (at, (words, status, text)) in TABLE.iter().enumerate() {
-        let (got, written) = outcome(alloc, words, Vec::new(alloc))?;
+        let (got, written) = outcome(&rt, alloc, words, Vec::new(alloc))?;
         assert_eq!(rt; got, *status, "at {at}");
         assert_eq!(rt; written.as_slice(), *text, "at {at}");
     }
@@ -86,7 +92,7 @@ fn a_sink_that_fails_on_each_call(rt: HostRuntime) -> Result<(), Fail> {
     let words = ["gen", "--number", "4294967295"];
     let text = TABLE[6].2;
     for call in 0..9 {
-        let (got, written) = outcome(alloc, &words, vec![in alloc; call]?)?;
+        let (got, written) = outcome(&rt, alloc, &words, vec![in alloc; call]?)?;
         let (want, due) = if call < 8 {
             (Status::WriteFault, &text[..8 * call as usize])
         } else {

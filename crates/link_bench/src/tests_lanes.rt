@@ -1,7 +1,6 @@
 //! Runs of links with several lanes: worked examples, with the reports of a program that shares no
 //! code with this one.
-use crate::bench;
-use crate::tests::outcome;
+use crate::tests::{answer, outcome};
 use jesd_base::{MemSink, MemSource, Status};
 use std::test::Fail;
 
@@ -87,7 +86,7 @@ const TABLE: [Row; 12] = [
 fn runs_of_several_lanes(rt: HostRuntime) -> Result<(), Fail> {
     let alloc = rt.alloc();
     for (at, (input, status, text)) in TABLE.iter().enumerate() {
-        let (got, written) = outcome(alloc, &["run"], input)?;
+        let (got, written) = outcome(&rt, alloc, &["run"], input)?;
         assert_eq!(rt; got, *status, "at {at}");
         assert_eq!(rt; written.as_slice(), *text, "at {at}");
     }
@@ -113,7 +112,7 @@ fn a_run_of_four_lanes(rt: HostRuntime) -> Result<(), Fail> {
         .ok()
         .ok_or("no memory")?;
     assert_eq!(rt;
-        bench(alloc, &["run"], &mut source, &mut sink),
+        answer(&rt, alloc, &["run"], &mut source, &mut sink),
         Status::Done
     );
     assert!(rt; sink.bytes().starts_with(FIRST_LINES));

@@ -1,7 +1,6 @@
 //! Tests of the job `run`: a record of each kind on a link with one lane, and a source and a sink
 //! that fail.
-use crate::bench;
-use crate::tests::outcome;
+use crate::tests::{answer, outcome};
 use jesd_base::{MemSink, MemSource, Status};
 use std::test::Fail;
 
@@ -64,7 +63,7 @@ fn runs_of_one_lane(rt: HostRuntime) -> Result<(), Fail> {
         ),
     ];
     for (at, (input, status, text)) in table.iter().enumerate() {
-        let (got, written) = outcome(alloc, &["run"], input)?;
+        let (got, written) = outcome(&rt, alloc, &["run"], input)?;
         assert_eq!(rt; got, *status, "at {at}");
         assert_eq!(rt; written.as_slice(), *text, "at {at}");
     }
@@ -80,7 +79,7 @@ fn streams_that_fail(rt: HostRuntime) -> Result<(), Fail> {
         .ok()
         .ok_or("no memory")?;
     assert_eq!(rt;
-        bench(alloc, &["run"], &mut source, &mut sink),
+        answer(&rt, alloc, &["run"], &mut source, &mut sink),
         Status::ReadFault
     );
     assert_eq!(rt; sink.bytes().len(), 0);
@@ -89,7 +88,7 @@ fn streams_that_fail(rt: HostRuntime) -> Result<(), Fail> {
         .ok()
         .ok_or("no memory")?;
     assert_eq!(rt;
-        bench(alloc, &["run"], &mut source, &mut sink),
+        answer(&rt, alloc, &["run"], &mut source, &mut sink),
         Status::WriteFault
     );
     assert_eq!(rt; sink.bytes(), b"link,64,27,27,23,2432\nhu".as_slice());

@@ -22,8 +22,10 @@ use Rattle.link_model.specs.Edges.{is_reset, resets}
 use Rattle.link_model.specs.kept.LaneRuns.{LaneRun}
 use Rattle.link_run.proofs.PlanFacts.{plan-facts}
 use Rattle.link_run.specs.kept.Happened.{AreAsBefore, as_of}
-use Rattle.lane_threads.specs.kept.LaneRuns.{HasRunLane, Pair}
-use Rattle.link_run.specs.kept.LaneRuns.{AreAt, HaveRunLanes, with_lane}
+use Rattle.lane_threads.specs.declared.lane_pair.LanePair.{LanePair}
+use Rattle.lane_threads.specs.kept.LaneRuns.{HasRunLane}
+use Rattle.link_run.specs.kept.LaneRuns.{AreAt, HaveRunLanes, KeepRings, with_lane}
+use Rattle.link_run.proofs.SameLanes.{keep-again, keep-none}
 
 -- the ticks do not fall, and are at least a
 abbrev pub Ascends : List Event → ℕ → Type 0
@@ -55,13 +57,13 @@ at-least (x ∷ xs) a (suc k) d h below = let from = h.0 in
 abbrev pub passed : ℕ → List Event → ℕ
 passed t xs = count_by (λ (e : Event). nat_lt e.tick t) xs
 
-passed-yes : (x : Event) (xs : List Event) (t : ℕ) → x.tick < t
+pub passed-yes : (x : Event) (xs : List Event) (t : ℕ) → x.tick < t
     → passed t (x ∷ xs) ≡ suc (passed t xs)
 passed-yes x xs t low =
     sum_by-cons (λ (e : Event). if nat_lt e.tick t then 1 else 0) x xs
     ∙ ap (λ b. (if b then 1 else 0) + passed t xs) (lt-ltb x.tick t low) ∙ (omega arith)
 
-passed-none : (xs : List Event) (a t : ℕ) → Ascends xs a → t ≤ a → passed t xs ≡ 0
+pub passed-none : (xs : List Event) (a t : ℕ) → Ascends xs a → t ≤ a → passed t xs ≡ 0
 passed-none [] a t h le = refl
 passed-none (x ∷ xs) a t h le =
     let from = h.0 in
@@ -232,7 +234,7 @@ dead-before (suc t) s lane h =
     ∙ ap (λ n. fold (λ d (e : Event). dead_after lane d e.what) false
     (take (passed n s.events) s.events)) e
 
-delay-now : (s : Plan) (lane t d : ℕ) → Ascends s.events 0 → d ≡ delay_before s lane t
+pub delay-now : (s : Plan) (lane t d : ℕ) → Ascends s.events 0 → d ≡ delay_before s lane t
     → fold (λ d (e : Event). delay_after lane d e.what) d (happens t s.events) ≡ delay_at s lane t
 unfolding delay_at
 delay-now s lane t d h is =
@@ -240,7 +242,7 @@ delay-now s lane t d h is =
     (is ∙ delay-before t s lane h)
     ∙ fold-happens s.events 0 t (λ d (e : Event). delay_after lane d e.what) (first_delay s) h
 
-dead-now : (s : Plan) (lane t : ℕ) (d : Bool) → Ascends s.events 0 → d ≡ dead_before s lane t
+pub dead-now : (s : Plan) (lane t : ℕ) (d : Bool) → Ascends s.events 0 → d ≡ dead_before s lane t
     → fold (λ d (e : Event). dead_after lane d e.what) d (happens t s.events) ≡ is_dead s lane t
 unfolding is_dead
 dead-now s lane t d h is =
@@ -256,15 +258,15 @@ after es lane x = record x {
   dead = fold (λ d (e : Event). dead_after lane d e.what) x.dead es;
 }
 
-pub have-each : (lanes : List Pair) (s : Plan) (f g : ℕ → LaneRun) → ((lane : ℕ) → f lane ≡ g lane)
+pub have-each : (lanes : List LanePair) (s : Plan) (f g : ℕ → LaneRun) → ((lane : ℕ) → f lane ≡ g lane)
     → HaveRunLanes lanes s f → HaveRunLanes lanes s g
 have-each lanes s f g same run = (
   run.0,
-  λ lane d below. subst (HasRunLane (get_or lanes lane d) s lane) (same lane)
+  λ lane d below. subst (HasRunLane (get_or lanes lane d).lane s lane) (same lane)
       (run.1 lane d below),
 )
 
-pub after-happens : (lanes : List Pair) (s : Plan) (t : ℕ) (runs : ℕ → LaneRun) → Ascends s.events 0
+pub after-happens : (lanes : List LanePair) (s : Plan) (t : ℕ) (runs : ℕ → LaneRun) → Ascends s.events 0
     → AreAsBefore s t runs
     → HaveRunLanes lanes s (λ lane. after (happens t s.events) lane (runs lane))
     → HaveRunLanes lanes s (λ lane. as_of s t lane (runs lane))
@@ -281,7 +283,7 @@ abbrev pub one : What → ℕ → LaneRun → LaneRun
 one what lane x =
     record x { delay = delay_after lane x.delay what; dead = dead_after lane x.dead what }
 
-pub reset-passes : (lanes : List Pair) (s : Plan) (runs : ℕ → LaneRun) (device : Device)
+pub reset-passes : (lanes : List LanePair) (s : Plan) (runs : ℕ → LaneRun) (device : Device)
     (what : What) → what ≡ Reset device → HaveRunLanes lanes s runs
     → HaveRunLanes lanes s (λ lane. one what lane (runs lane))
 reset-passes lanes s runs device what is run =
@@ -309,7 +311,7 @@ dead-one : (here on : Bool) (x : LaneRun)
 dead-one true on x = refl
 dead-one false on x = refl
 
-pub delayed : (lanes : List Pair) (s : Plan) (runs : ℕ → LaneRun) (lane bits : ℕ) (what : What)
+pub delayed : (lanes : List LanePair) (s : Plan) (runs : ℕ → LaneRun) (lane bits : ℕ) (what : What)
     → what ≡ Delay lane bits
     → HaveRunLanes lanes s (with_lane runs lane (record (runs lane) { delay = bits }))
     → HaveRunLanes lanes s (λ k. one what k (runs k))
@@ -323,7 +325,7 @@ delayed lanes s runs lane bits what is run =
     ∙ delayed-one (k == lane) (runs k) bits
     ∙ ap (λ b. record (runs k) { delay = if b then bits else (runs k).delay }) (turned k lane)) run)
 
-pub died : (lanes : List Pair) (s : Plan) (runs : ℕ → LaneRun) (lane : ℕ) (on : Bool) (what : What)
+pub died : (lanes : List LanePair) (s : Plan) (runs : ℕ → LaneRun) (lane : ℕ) (on : Bool) (what : What)
     → what ≡ Dead lane on
     → HaveRunLanes lanes s (with_lane runs lane (record (runs lane) { dead = on }))
     → HaveRunLanes lanes s (λ k. one what k (runs k))
@@ -340,22 +342,28 @@ died lanes s runs lane on what is run =
 -- ---- several
 
 -- these events were done to the lanes
-pub record HasApplied (old new : List Pair) (es : List Event) : Type 0 where
+pub record HasApplied (old new : List LanePair) (es : List Event) : Type 0 where
   pub goes_on : (s : Plan) (runs : ℕ → LaneRun) → HaveRunLanes old s runs
       → HaveRunLanes new s (λ lane. after es lane (runs lane))
   pub at : (p : Params) (next : Option ℕ) → AreAt old p next → AreAt new p next
+  pub rings : KeepRings old new
   pub count : length new ≡ length old
 
-pub applied-none : (lanes : List Pair) → HasApplied lanes lanes []
-applied-none lanes = record { goes_on = λ s runs run. run; at = λ p next are. are; count = refl }
+pub applied-none : (lanes : List LanePair) → HasApplied lanes lanes []
+applied-none lanes = record {
+  goes_on = λ s runs run. run;
+  at = λ p next are. are;
+  rings = keep-none lanes;
+  count = refl;
+}
 
-pub applied-more : (old mid new : List Pair) (xs : List Event) (i : ℕ) (d : Event) → i < length xs
+pub applied-more : (old mid new : List LanePair) (xs : List Event) (i : ℕ) (d : Event) → i < length xs
     → ((s : Plan) (runs : ℕ → LaneRun) → HaveRunLanes mid s runs
     → HaveRunLanes new s (λ lane. one (get_or xs i d).what lane (runs lane)))
     → ((p : Params) (next : Option ℕ) → AreAt mid p next → AreAt new p next)
-    → length new ≡ length mid
+    → KeepRings mid new → length new ≡ length mid
     → HasApplied old mid (take i xs) → HasApplied old new (take (i + 1) xs)
-applied-more old mid new xs i d below step at count h = record {
+applied-more old mid new xs i d below step at rings count h = record {
   goes_on = λ s runs run.
       have-each new s (λ lane. one (get_or xs i d).what lane (after (take i xs) lane (runs lane)))
       (λ lane. after (take (i + 1) xs) lane (runs lane))
@@ -364,6 +372,7 @@ applied-more old mid new xs i d below step at count h = record {
       (sym (fold_more (λ x (e : Event). dead_after lane x e.what) (runs lane).dead xs i d below)))
       (step s (λ lane. after (take i xs) lane (runs lane)) (h.goes_on s runs run));
   at = λ p next are. at p next (h.at p next are);
+  rings = keep-again old mid new h.rings rings;
   count = count ∙ h.count;
 }
 

@@ -29,7 +29,7 @@ use Rattle.link_model.specs.Moments.{Delivered, History}
 use Rattle.link_run.proofs.Marks.{length-cells}
 use Rattle.link_run.proofs.RunFacts.{IsRunOf}
 use Rattle.link_run.specs.kept.Gathered.{FramesAre, Gathering, HasGathered, Whole, delivered_of, no_frame, whole_of}
-use Rattle.link_run.specs.kept.LinkStates.{columns_left, columns_of}
+use Rattle.link_run.specs.kept.Collected.{columns_of}
 
 and-false : (a : Bool) → (a && false) ≡ false
 and-false true = refl
@@ -43,6 +43,10 @@ not-running stage.Run apart = absurd (apart refl)
 -- the history with the tick
 abbrev pub with_tick : Plan → History → History
 with_tick s h = h ++ moment_of s h ∷ []
+
+-- the columns of the session to which the tick belongs
+abbrev pub columns_left : Plan → History → Columns
+columns_left s h = if (moment_of s h).told.hunt then [] else columns_of s h
 
 -- ---- a tick in which the link is not released
 
@@ -183,17 +187,6 @@ have-octets p before columns frames are =
     subst (All (λ (f : Whole). length f.octets ≡ p.l * p.f)) (sym are)
     (All-map (λ (f : Whole). length f.octets ≡ p.l * p.f) (whole_of p columns) numbers
     (λ k d inside. octets-size p columns (get_or numbers k d)))
-
--- a frame that is gathered, with other frames that became whole
-pub still-gathered : (now : Gathering) (p : Params) (columns : Columns) (frames : List Whole)
-    → HasGathered now p columns
-    → HasGathered (record now { frames = frames }) p columns
-still-gathered now p columns frames h = record {
-  same_params = h.same_params;
-  count = h.count;
-  worst = h.worst;
-  octets = h.octets;
-}
 
 pub no-octets : (p : Params) → All (λ (f : Whole). length f.octets ≡ p.l * p.f) []
 no-octets p = λ k d inside. absurd (omega arith)

@@ -12,14 +12,15 @@ use Rattle.link_model.specs.Moments.{History}
 use Rattle.link_run.proofs.FeedLemmas.{some_plan}
 use Rattle.link_run.proofs.PlanFacts.{plan-facts}
 use Rattle.link_run.specs.kept.Happened.{AreAsBefore, as_of}
-use Rattle.lane_threads.specs.kept.LaneRuns.{HasRunLane, Pair}
+use Rattle.lane_threads.specs.declared.lane_pair.LanePair.{LanePair}
+use Rattle.lane_threads.specs.kept.LaneRuns.{HasRunLane}
 use Rattle.link_run.specs.kept.LaneRuns.{HaveRunLanes}
 
-pub have-same : (now : List Pair) (s : Plan) (f g : ℕ → LaneRun)
+pub have-same : (now : List LanePair) (s : Plan) (f g : ℕ → LaneRun)
     → ((lane : ℕ) → lane < s.link.params.l → f lane ≡ g lane) → HaveRunLanes now s f → HaveRunLanes now s g
 have-same now s f g same h = (
   h.0,
-  λ lane d below. subst (HasRunLane (get_or now lane d) s lane) (same lane below)
+  λ lane d below. subst (HasRunLane (get_or now lane d).lane s lane) (same lane below)
       (h.1 lane d below),
 )
 

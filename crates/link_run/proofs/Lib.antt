@@ -9,8 +9,10 @@ pub mod PlanFacts
 pub mod LinkFacts
 pub mod FlipLemmas
 pub mod LaneLemmas
-pub mod PrintedRows
+pub mod SameLanes
+pub mod Carrying
 pub mod Marks
+pub mod RowOctets
 pub mod Gathering
 pub mod NamedOctets
 pub mod RunFacts
@@ -19,4 +21,15 @@ pub mod EventLemmas
 pub mod TickRows
 pub mod LaneStates
 pub mod GiveFacts
+pub mod Collecting
+pub mod SegmentFacts
+pub mod LinkRuns
 pub mod TickFacts
+pub mod PlanSteps
+pub mod HandedRows
+pub mod RunRows
+pub mod KeptFrames
+pub mod LineLengths
+pub mod TakenRows
+pub mod TakenFrames
+pub mod WrittenRows

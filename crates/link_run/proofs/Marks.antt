@@ -1,5 +1,5 @@
 -- The worst of some marks, by what is not better than each of them.
-use Rattle.std.proofs.Common.{◌≡◌, ℕ, zero, suc, ◌+◌, ◌-◌, ◌*◌, ◌/◌, ◌%◌, ◌<◌, ◌≤◌, List, [], ◌∷◌, map, length, get_or, refl, ap, ◌∙◌, arith, inl, inr}
+use Rattle.std.proofs.Common.{◌≡◌, ℕ, zero, suc, ◌+◌, ◌-◌, ◌*◌, ◌/◌, ◌%◌, ◌<◌, ◌≤◌, List, [], ◌∷◌, map, length, get_or, refl, ap, sym, ◌∙◌, arith, inl, inr}
 use Rattle.std.proofs.lemmas.List.{get_or-map, length-map}
 use Rattle.std.proofs.Math.Nat.{mod-lt, mul-zero, mul-le-mul_right}
 use Rattle.std.specs.Prelude.{fold}
@@ -190,3 +190,33 @@ worst_more lanes m n cell w column some size last is =
           let here = every i (m + 0) (omega arith) (omega arith) in
           omega arith);
     }
+
+-- ---- the marks of a tick, worse than one that was there
+
+worse-assoc : (a b c : Mark) → worse (worse a b) c ≡ worse a (worse b c)
+worse-assoc Good b c = refl
+worse-assoc Bad b c = refl
+worse-assoc Fixed Good c = refl
+worse-assoc Fixed Bad c = refl
+worse-assoc Fixed Fixed Good = refl
+worse-assoc Fixed Fixed Fixed = refl
+worse-assoc Fixed Fixed Bad = refl
+
+worse-good : (m : Mark) → worse m Good ≡ m
+worse-good Good = refl
+worse-good Fixed = refl
+worse-good Bad = refl
+
+pub fold-worse : (marks : List Mark) (m : Mark) → fold worse m marks ≡ worse m (fold worse Good marks)
+fold-worse [] m = sym (worse-good m)
+fold-worse (x ∷ marks) m =
+    fold-worse marks (worse m x)
+    ∙ worse-assoc m x (fold worse Good marks)
+    ∙ ap (worse m) (sym (fold-worse marks x))
+
+pub nothing-worst : (lanes : ℕ) (cell : ℕ → ℕ → LaneCell) → IsWorst lanes 0 cell Good
+nothing-worst lanes cell = record {
+  each = λ lane j in_lanes in_lane. absurd (omega arith);
+  least =
+      λ b every. omega arith;
+}

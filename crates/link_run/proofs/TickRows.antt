@@ -1,6 +1,6 @@
 -- The rows of a tick, kind by kind, and what they add to the counts.
-use Rattle.std.proofs.Common.{◌≡◌, ℕ, zero, suc, ◌+◌, ◌-◌, ◌*◌, ◌/◌, ◌%◌, ◌≤◌, ◌<◌, ◌≢◌, Bool, true, false, if◌then◌else◌, List, [], ◌∷◌, ◌++◌, length, map, take, filter, get_or, slice_get, Option, Some, None, refl, sym, ap, ap₂, ◌∙◌, append_assoc, append-nil, length-append, arith, count_by}
-use Rattle.std.proofs.lemmas.List.{length-map, map-append, map_push, take_more}
+use Rattle.std.proofs.Common.{◌≡◌, ℕ, zero, suc, ◌+◌, ◌-◌, ◌*◌, ◌/◌, ◌%◌, ◌≤◌, ◌<◌, ◌≢◌, Bool, true, false, if◌then◌else◌, List, [], ◌∷◌, ◌++◌, length, map, take, drop, filter, get_or, slice_get, Option, Some, None, refl, sym, ap, ap₂, ◌∙◌, append_assoc, append-nil, length-append, arith, count_by}
+use Rattle.std.proofs.lemmas.List.{length-map, map-append, map_push, take-append-drop, take_more}
 use Rattle.std.proofs.lemmas.List.Elements.{filter-append}
 use Rattle.std.proofs.lemmas.List.Sums.{count_by-le-length, fold-append, length-filter}
 use Rattle.std.proofs.lemmas.Bool.{ne_eqb}
@@ -19,8 +19,8 @@ use Rattle.scenario.specs.declared.report_row.Totals.{Totals}
 use Rattle.scenario.specs.Plans.{Plan, numbers_from, source_frame}
 use Rattle.link_run.specs.declared.ticked.Ticked.{Ticked}
 use Rattle.link_model.proofs.NextMoment.{entered-next}
-use Rattle.link_model.proofs.NumberLists.{length-numbers, map-numbers, map-shift, numbers-more}
-use Rattle.link_model.proofs.RowHistory.{fullest-more, rows-more, totals-more}
+use Rattle.link_model.proofs.NumberLists.{length-numbers, map-numbers, map-shift, numbers-append, numbers-more}
+use Rattle.link_model.proofs.RowHistory.{totals-more}
 use Rattle.link_model.specs.Edges.{off}
 use Rattle.link_model.specs.Kinds.{kind_of, moment_of}
 use Rattle.link_model.specs.Moments.{Delivered, History}
@@ -28,7 +28,7 @@ use Rattle.link_model.specs.Report.{Printed, alarms_from, bare, bares, decision_
 use Rattle.link_model.specs.Sends.{begins_frame, frames_before}
 use Rattle.link_run.specs.kept.Gathered.{Whole, delivered_of, no_frame}
 use Rattle.link_run.specs.kept.Printing.{counted_mark}
-use Rattle.link_run.specs.kept.Reported.{IsSeen, rows_so_far}
+use Rattle.link_run.specs.kept.Reported.{AreFew, IsSeen}
 use Rattle.link_run.specs.kept.TickCounts.{entered_at, with_alarms, with_marks}
 use Rattle.link_params.specs.Config.{one_if}
 
@@ -53,6 +53,19 @@ alarm-rows-more alarms rows t i a is =
     ∙ ap (λ (xs : List Printed). rows ++ xs) (alarm-rows-append t (take i alarms) (a ∷ []))
     ∙ sym (append_assoc rows (alarm_rows t (take i alarms)) (bare (row.Alarm t a) ∷ []))
 
+-- and all others
+pub alarm-rows-rest : (alarms : List Alarm) (t i : ℕ)
+    → alarm_rows t (take i alarms) ++ alarm_rows t (drop i alarms) ≡ alarm_rows t alarms
+alarm-rows-rest alarms t i =
+    sym (alarm-rows-append t (take i alarms) (drop i alarms))
+    ∙ ap (alarm_rows t) (take-append-drop i alarms)
+
+-- rows and others, where they are printed
+pub printed-rest : (shown : Bool) (xs ys : List Printed)
+    → (if shown then xs else []) ++ (if shown then ys else []) ≡ (if shown then xs ++ ys else [])
+printed-rest true xs ys = refl
+printed-rest false xs ys = refl
+
 -- a row more, where these rows are printed
 shown-more : (shown : Bool) (rows old : List Printed) (x : Printed)
     → rows ++ (if shown then old ++ x ∷ [] else []) ≡ (rows ++ (if shown then old else []))
@@ -60,10 +73,12 @@ shown-more : (shown : Bool) (rows old : List Printed) (x : Printed)
 shown-more true rows old x = sym (append_assoc rows old (x ∷ []))
 shown-more false rows old x = sym (append-nil (rows ++ []))
 
-pub shown-none : (shown : Bool) (rows : List Printed)
-    → rows ++ (if shown then [] else []) ≡ rows
-shown-none true rows = append-nil rows
-shown-none false rows = append-nil rows
+abbrev pub no_rows : List Printed
+no_rows = []
+
+pub none-printed : (shown : Bool) → (if shown then no_rows else no_rows) ≡ no_rows
+none-printed true = refl
+none-printed false = refl
 
 -- ---- the frames that begin
 
@@ -198,6 +213,40 @@ entries-shown s p rows t place j n time number begins at count =
     ∙ shown-more (prints_all s.print) rows (enter_rows s n old)
     (record { row = row.Enter time; words = source_frame s number })
 
+enter-rows-rest : (xs ys : List ℕ) (s : Plan) (n : ℕ)
+    → (rest : List Printed) × (enter_rows s n xs ++ rest ≡ enter_rows s n (xs ++ ys))
+unfolding enter_rows
+enter-rows-rest [] ys s n = (enter_rows s n ys, refl)
+enter-rows-rest (x ∷ xs) ys s n =
+    let (rest, is) = enter-rows-rest xs ys s (suc n) in
+    let first : Printed = record { row = row.Enter x; words = source_frame s n } in
+    (rest, ap (λ (rows : List Printed). first ∷ rows) is)
+
+entered-split : (p : Params) (t place n m : ℕ)
+    → (rest : List ℕ) × (entered_first p t place n ++ rest ≡ entered_first p t place (n + m))
+entered-split p t place n m =
+    let at : ℕ → ℕ = λ j. octets_per_tick p * t + j in
+    let begins = begins_frame p place in
+    let these = numbers_from 0 n in
+    let others = numbers_from (0 + n) m in (
+      map at (filter begins others),
+      sym (ap (λ (xs : List ℕ). map at (filter begins xs)) (numbers-append n m 0)
+          ∙ ap (map at) (filter-append begins these others)
+          ∙ map-append at (filter begins these) (filter begins others)),
+    )
+
+-- the rows of the frames that begin with other octets
+pub entries-rest : (s : Plan) (p : Params) (t place n j k : ℕ) → j ≤ k
+    → (rest : List Printed) × (enter_rows s n (entered_first p t place j) ++ rest
+    ≡ enter_rows s n (entered_first p t place k))
+entries-rest s p t place n j k within =
+    let long : j + (k - j) ≡ k = omega arith in
+    let (others, split) = entered-split p t place j (k - j) in
+    let (rest, is) = enter-rows-rest (entered_first p t place j) others s n in (
+      rest,
+      is ∙ ap (enter_rows s n) (split ∙ ap (entered_first p t place) long),
+    )
+
 -- ---- the frames that leave
 
 -- frame i of those that leave
@@ -225,6 +274,22 @@ leaving-more p end frames begun n =
     (numbers-more n 0 ∙ ap (λ (k : ℕ). numbers_from 0 n ++ k ∷ []) last)
     ∙ ap (map frame_row) (map_push f (numbers_from 0 n) n)
     ∙ map_push frame_row (map f (numbers_from 0 n)) (f n)
+
+-- the rows of the others
+pub leaving-rest : (p : Params) (end : ℕ) (frames : List Whole) (begun n m : ℕ) → n ≤ m
+    → (rest : List Printed)
+    × (leaving_rows p end frames begun n ++ rest ≡ leaving_rows p end frames begun m)
+leaving-rest p end frames begun n m within =
+    let f = leaving p end frames begun in
+    let long : n + (m - n) ≡ m = omega arith in
+    let these = numbers_from 0 n in
+    let others = numbers_from (0 + n) (m - n) in (
+      map frame_row (map f others),
+      sym (ap (λ (k : ℕ). leaving_rows p end frames begun k) (sym long)
+          ∙ ap (λ (xs : List ℕ). map frame_row (map f xs)) (numbers-append n (m - n) 0)
+          ∙ ap (map frame_row) (map-append f these others)
+          ∙ map-append frame_row (map f these) (map f others)),
+    )
 
 count-more : (test : Mark → Bool) (ms : List Mark) (m : Mark)
     → count_by test (ms ++ m ∷ []) ≡ count_by test ms + one_if (test m)
@@ -288,22 +353,49 @@ leaving-shown shown rows p end frames begun i time frame left is =
 
 -- ---- a tick
 
--- the rows of a tick, as they are added; n: how many frames began before it
-unfoldable pub seen_rows : Ticked → List Alarm → List Whole → ℕ → Plan → ℕ → ℕ → ℕ → List Printed
-    → List Printed
-seen_rows x alarms frames begun s t end n rows =
-    ((((((rows ++ bares (if x.rx_reset then row.Hunt t ∷ [] else []))
-    ++ alarm_rows t (off_alarm Tx x.tx_off))
-    ++ alarm_rows t (off_alarm Rx x.rx_off))
-    ++ (if prints_all s.print then enter_rows s n (entered_at s.link.params t x.place) else []))
-    ++ alarm_rows t alarms)
-    ++ bares (decision_rows t x.decision))
-    ++ (if prints_frames s.print then map frame_row (delivered_of s.link.params end frames begun)
-    else [])
+-- what is reported of tick t of a plan; end: the octet time after it, n: how many frames began
+-- before it
+pub record Tick : Type 0 where
+  pub s : Plan
+  pub t : ℕ
+  pub end : ℕ
+  pub n : ℕ
+  pub x : Ticked
+  pub alarms : List Alarm
+  pub frames : List Whole
+  pub begun : ℕ
 
-in-a-row : (a b c d e f g r : List Printed) → ((((((r ++ a) ++ b) ++ c) ++ d) ++ e) ++ f) ++ g ≡ r
-    ++ (a ++ ((b ++ c) ++ (d ++ (e ++ (f ++ g)))))
-in-a-row a b c d e f g r = grind (arith, append_assoc)
+-- its rows, as they are added, and those from each of them on
+abbrev pub left_rows : Tick → List Printed
+left_rows k = if prints_frames k.s.print
+    then map frame_row (delivered_of k.s.link.params k.end k.frames k.begun)
+    else []
+
+abbrev pub from_decision : Tick → List Printed
+from_decision k = bares (decision_rows k.t k.x.decision) ++ left_rows k
+
+abbrev pub from_alarms : Tick → List Printed
+from_alarms k = alarm_rows k.t k.alarms ++ from_decision k
+
+abbrev pub entered_rows : Tick → List Printed
+entered_rows k = if prints_all k.s.print
+    then enter_rows k.s k.n (entered_at k.s.link.params k.t k.x.place)
+    else []
+
+abbrev pub from_entries : Tick → List Printed
+from_entries k = entered_rows k ++ from_alarms k
+
+abbrev pub from_rx_off : Tick → List Printed
+from_rx_off k = alarm_rows k.t (off_alarm Rx k.x.rx_off) ++ from_entries k
+
+abbrev pub from_tx_off : Tick → List Printed
+from_tx_off k = alarm_rows k.t (off_alarm Tx k.x.tx_off) ++ from_rx_off k
+
+abbrev pub reset_rows : Tick → List Printed
+reset_rows k = bares (if k.x.rx_reset then row.Hunt k.t ∷ [] else [])
+
+abbrev pub seen_rows : Tick → List Printed
+seen_rows k = reset_rows k ++ from_tx_off k
 
 -- the octet times at which frames began
 entered-seen : (x : Ticked) (alarms : List Alarm) (frames : List Whole) (begun : ℕ) (s : Plan)
@@ -314,39 +406,29 @@ entered-seen x alarms frames begun s h seen =
     entered-next (kind_of s.link.params) s h
     ∙ ap (entered_at s.link.params (length h)) (sym seen.place)
 
-tick-rows : (x : Ticked) (alarms : List Alarm) (frames : List Whole) (begun : ℕ) (s : Plan)
-    (h : History) (rows : List Printed)
-    → IsSeen x alarms frames begun s h
-    → seen_rows x alarms frames begun s (length h) (octets_per_tick s.link.params * (length h + 1))
-    (frames_before h) rows
-    ≡ rows ++ rows_of_tick s (length h) (frames_before h) (moment_of s h)
-unfolding seen_rows rows_of_tick off_alarms
-tick-rows x alarms frames begun s h rows seen =
+pub seen-rows : (k : Tick) (h : History) → IsSeen k.x k.alarms k.frames k.begun k.s h
+    → k.t ≡ length h → k.end ≡ octets_per_tick k.s.link.params * (k.t + 1)
+    → k.n ≡ frames_before h
+    → seen_rows k ≡ rows_of_tick k.s k.t (frames_before h) (moment_of k.s h)
+unfolding rows_of_tick off_alarms
+seen-rows k h seen at past before =
+    let end : octets_per_tick k.s.link.params * (length h + 1) ≡ k.end =
+    ap (λ (a : ℕ). octets_per_tick k.s.link.params * (a + 1)) (sym at) ∙ sym past in
     rw (
+      at,
+      ← before,
       ← seen.rx_reset,
       ← seen.tx_off,
       ← seen.rx_off,
-      entered-seen x alarms frames begun s h seen,
+      entered-seen k.x k.alarms k.frames k.begun k.s h seen,
       ← seen.alarms_are,
       ← seen.decision,
       seen.delivered_is,
-      alarm-rows-append (length h) (off_alarm Tx x.tx_off) (off_alarm Rx x.rx_off),
-    ) (in-a-row _ _ _ _ _ _ _ rows)
-
-pub seen-rows : (x : Ticked) (alarms : List Alarm) (frames : List Whole) (begun : ℕ) (s : Plan)
-    (h : History) (t end n : ℕ)
-    → IsSeen x alarms frames begun s h → t ≡ length h
-    → end ≡ octets_per_tick s.link.params * (t + 1) → n ≡ frames_before h
-    → seen_rows x alarms frames begun s t end n (rows_so_far s h)
-    ≡ rows_so_far s (h ++ moment_of s h ∷ [])
-seen-rows x alarms frames begun s h t end n seen at past before =
-    ap₂ (λ (a b : ℕ). seen_rows x alarms frames begun s a b n (rows_so_far s h)) at (past
-    ∙ ap (λ (a : ℕ). octets_per_tick s.link.params * (a + 1)) at)
-    ∙ ap (λ (k : ℕ). seen_rows x alarms frames begun s (length h)
-    (octets_per_tick s.link.params * (length h + 1)) k (rows_so_far s h)) before
-    ∙ tick-rows x alarms frames begun s h (rows_so_far s h) seen
-    ∙ ap (λ (l : List Printed). bare row.Link ∷ bare (row.Hunt 0) ∷ l)
-    (sym (rows-more s h (moment_of s h)))
+      end,
+      alarm-rows-append (length h) (off_alarm Tx k.x.tx_off) (off_alarm Rx k.x.rx_off),
+    ) (ap (λ (xs : List Printed). bares (if k.x.rx_reset then row.Hunt (length h) ∷ [] else []) ++ xs)
+    (sym (append_assoc (alarm_rows (length h) (off_alarm Tx k.x.tx_off))
+    (alarm_rows (length h) (off_alarm Rx k.x.rx_off)) _)))
 
 -- the counts, as they are added
 unfoldable pub seen_counts : Ticked → List Alarm → List Whole → Params → ℕ → Totals → Totals
@@ -358,7 +440,7 @@ seen_counts x alarms frames p t n =
     } in
     let marks = map (λ (f : Whole). f.mark) frames in
     let left = with_marks (with_alarms begun (length alarms)) marks in
-    record left { ticks = left.ticks + 1; fullest = x.fullest }
+    record left { ticks = left.ticks + 1 }
 
 marks-of : (p : Params) (end : ℕ) (frames : List Whole) (begun : ℕ)
     → map (λ (d : Delivered). d.mark) (delivered_of p end frames begun)
@@ -374,9 +456,13 @@ unfolding off_alarms
 offs-of s t tx rx is_tx is_rx =
     rw (is_tx, is_rx) (length-append (off_alarm Tx (off s Tx t)) (off_alarm Rx (off s Rx t)))
 
+-- the counts but for the entries that lanes held
+abbrev pub bare_totals : Plan → History → Totals
+bare_totals s h = record (totals s h) { fullest = 0 }
+
 counted : (x : Ticked) (alarms : List Alarm) (frames : List Whole) (p : Params) (s : Plan)
     (h : History)
-    → seen_counts x alarms frames p (length h) (totals s h) ≡ record {
+    → seen_counts x alarms frames p (length h) (bare_totals s h) ≡ record {
       ticks = length h + 1;
       entered = frames_before h + length (entered_at p (length h) x.place);
       delivered = length (marks h) + length (map (λ (f : Whole). f.mark) frames);
@@ -386,7 +472,7 @@ counted : (x : Ticked) (alarms : List Alarm) (frames : List Whole) (p : Params) 
       alarms =
           alarms_from s 0 h + (length (off_alarm Tx x.tx_off) + length (off_alarm Rx x.rx_off)
           + length alarms);
-      fullest = x.fullest;
+      fullest = 0;
     }
 unfolding seen_counts totals
 counted x alarms frames p s h =
@@ -399,7 +485,8 @@ counted x alarms frames p s h =
 pub seen-counts : (x : Ticked) (alarms : List Alarm) (frames : List Whole) (begun : ℕ) (s : Plan)
     (h : History) (t : ℕ)
     → IsSeen x alarms frames begun s h → t ≡ length h
-    → seen_counts x alarms frames s.link.params t (totals s h) ≡ totals s (h ++ moment_of s h ∷ [])
+    → seen_counts x alarms frames s.link.params t (bare_totals s h)
+    ≡ bare_totals s (h ++ moment_of s h ∷ [])
 seen-counts x alarms frames begun s h t seen at =
     let m = moment_of s h in
     let p = s.link.params in
@@ -410,11 +497,39 @@ seen-counts x alarms frames begun s h t seen at =
     ap (map (λ (d : Delivered). d.mark)) seen.delivered_is ∙ marks-of p _ frames begun in
     let gone : length m.delivered ≡ length ms =
     sym (length-map m.delivered (λ (d : Delivered). d.mark)) ∙ ap length same_marks in
-    let full = seen.fullest ∙ fullest-more h m in
     let offs : length (off_alarms s (length h)) ≡ length (off_alarm Tx x.tx_off) + length
     (off_alarm Rx x.rx_off) =
     offs-of s (length h) x.tx_off x.rx_off seen.tx_off seen.rx_off in
     let raised = ap length seen.alarms_are in
-    ap (λ (k : ℕ). seen_counts x alarms frames p k (totals s h)) at
+    ap (λ (k : ℕ). seen_counts x alarms frames p k (bare_totals s h)) at
     ∙ counted x alarms frames p s h
-    ∙ rw (totals-more s h m, began, gone, same_marks, ← full, offs, ← raised) refl
+    ∙ rw (totals-more s h m, began, gone, same_marks, offs, ← raised) refl
+
+-- few of them are added in a tick
+pub few-counts : (x : Ticked) (alarms : List Alarm) (frames : List Whole) (p : Params) (t : ℕ)
+    (n : Totals) → AreFew n t → length (off_alarm Tx x.tx_off) ≤ 1
+    → length (off_alarm Rx x.rx_off) ≤ 1 → length (entered_at p t x.place) ≤ 8
+    → length alarms ≤ 34 → length frames ≤ 8
+    → AreFew (seen_counts x alarms frames p t n) (t + 1)
+unfolding seen_counts
+few-counts x alarms frames p t n few tx rx begun some left =
+    let ms : List Mark = map (λ (f : Whole). f.mark) frames in
+    let long = length-map frames (λ (f : Whole). f.mark) in
+    let ok = count_by-le-length is_ok ms in
+    let fixed = count_by-le-length is_fixed ms in
+    let bad = count_by-le-length is_bad ms in
+    let had = few.frames in
+    let had_ticks = few.ticks in
+    let had_entered = few.entered in
+    let had_alarms = few.alarms in
+    record {
+      ticks = omega arith;
+      entered = omega arith;
+      frames = record {
+        delivered = (let a = had.delivered in omega arith);
+        ok = (let a = had.ok in omega arith);
+        fixed = (let a = had.fixed in omega arith);
+        bad = (let a = had.bad in omega arith);
+      };
+      alarms = omega arith;
+    }

@@ -1,18 +1,16 @@
 //! Frames from the octets that the lanes give.
-ghost use Rattle.std.specs.Prelude.{◌≡◌, ◌<◌, ◌≤◌, ◌+◌, ◌-◌, ◌*◌, ◌/◌, ◌%◌, ◌^◌, ◌++◌, [], List, length, map, Some, None, IfOk};
+ghost use Rattle.std.specs.Prelude.{◌≡◌, ◌<◌, ◌≤◌, ◌+◌, ◌-◌, ◌*◌, ◌/◌, ◌%◌, ◌^◌, ◌++◌, ◌==◌, ◌⊎◌, if◌then◌else◌, [], ℕ, List, get_or, slice_index, length, map, Some, None, IfOk};
 ghost use Rattle.link_params.specs.declared.fields.Params.{Params as ParamsValue};
 ghost use Rattle.link_params.specs.declared.cells.LaneCell.{LaneCell as CellValue};
 ghost use Rattle.link_params.specs.declared.cells.Mark.TheVariants as mark;
-ghost use Rattle.link_params.specs.Numbers.{octets_per_tick};
 ghost use Rattle.link_model.specs.kept.Before.{Columns, octet_columns};
-ghost use Rattle.link_run.specs.kept.Gathered.{FramesAre, GathersOn, HasFinished, HasGathered, HasPut, HaveFrameSizes, IsWritten};
+ghost use Rattle.link_run.specs.kept.Gathered.{FramesAre, HasGathered, no_frame};
+ghost use Rattle.link_run.specs.kept.FrameRows.{AreMoved, IsPut, IsWritten};
 
-use crate::frame::Frame;
 use jesd_base::NoMemory;
 use link_params::{LaneCell, Mark, Shape};
 use std::alloc::Global;
 use std::marker::Model;
-use std::mem::swap;
 
 /// A frame that is gathered octet by octet from all lanes, and the frames that became whole in the
 /// last tick. Contracts see it as its parameters, how many octets of each lane are there, the worst
@@ -20,18 +18,28 @@ use std::mem::swap;
 #[derive(Drop)]
 pub struct Deframer {
     shape: Shape,
-    per_tick: u32,
-    at: u32,
+    per_tick: usize,
+    // Octets of a frame on a lane.
+    size: usize,
+    at: usize,
     mark: Mark,
-    octets: Vec<u8>,
-    // The first `whole` of these became whole in the last tick.
+    // The frames of a tick, where each tick has whole ones; else 0.
+    frames: usize,
+    // How many frames became whole in the last tick, the mark of the first and that of the others.
     whole: usize,
-    frames: Vec<Frame>,
+    first: Mark,
+    others: Mark,
+    // A row of `room` octets for each lane: those of these frames, and behind them those of the next
+    // one.
+    room: usize,
+    rows: Vec<u8>,
 }
 
 impl Model for Deframer {
-    ghost use Rattle.std.specs.Prelude.{take};
-    ghost use Rattle.link_run.specs.kept.Gathered.{Gathering, HasSizes};
+    ghost use Rattle.std.specs.Prelude.{map};
+    ghost use Rattle.scenario.specs.Plans.{numbers_from};
+    ghost use Rattle.link_run.specs.kept.Gathered.{Gathering};
+    ghost use Rattle.link_run.specs.kept.FrameRows.{HasRowSizes, frame_in, whole_in};
 
     ghost Value = { Gathering };
 
@@ -39,11 +47,11 @@ impl Model for Deframer {
       params = d.shape;
       at = d.at;
       mark = d.mark;
-      octets = d.octets.items;
-      frames = take d.whole d.frames.items;
+      octets = frame_in d.rows.items d.shape d.room d.whole;
+      frames = map (whole_in d.rows.items d.shape d.room d.first d.others) (numbers_from 0 d.whole);
     } };
 
-    ghost invariant = { λ d. HasSizes d.shape d.per_tick d.at d.octets.items d.whole d.frames.items };
+    ghost invariant = { λ d. HasRowSizes d.shape d.per_tick d.size d.frames d.room d.rows.items d.at d.whole };
 }
 
 impl Deframer {
@@ -53,32 +61,38 @@ impl Deframer {
         ensures begins { IfOk result (λ d. HasGathered d shape.now []) }
         ensures nothing { IfOk result (λ d. d.frames ≡ []) }
     {
-        let size = (shape.lanes() * shape.frame_octets()) as usize;
-        let Ok(octets) = vec![in alloc; 0u8; size] else {
+        let (size, per_tick) = (
+            shape.frame_octets() as usize,
+            shape.octets_per_tick() as usize,
+        );
+        let room = size + per_tick;
+        let Ok(rows) = vec![in alloc; 0u8; shape.lanes() as usize * room] else {
             return Err(NoMemory);
         };
         Ok(Deframer {
             shape: *shape,
-            per_tick: shape.octets_per_tick(),
+            per_tick,
+            size,
             at: 0,
             mark: Mark::Ok,
-            octets,
+            frames: if per_tick % size == 0 {
+                per_tick / size
+            } else {
+                0
+            },
             whole: 0,
-            frames: open_frames(alloc, shape, size)?,
+            first: Mark::Ok,
+            others: Mark::Ok,
+            room,
+            rows,
         })
     }
 
     /// A hunt begins: what is there is dropped.
     pub fn clear(&mut self)
-        ensures { (p : ParamsValue) (columns : Columns) → HasGathered self.old p columns
+        ensures begins { (p : ParamsValue) (columns : Columns) → HasGathered self.old p columns
             → HasGathered self.new p [] }
-    {
-        self.begin();
-    }
-
-    // A frame begins, of which nothing is there.
-    fn begin(&mut self)
-        ensures { self.new ≡ record self.old { at = 0; mark = mark.Ok } }
+        ensures same { self.new.params ≡ self.old.params }
     {
         self.at = 0;
         self.mark = Mark::Ok;
@@ -86,16 +100,40 @@ impl Deframer {
 
     /// A tick in which the lanes give nothing.
     pub fn rest(&mut self)
-        ensures { self.new ≡ record self.old { frames = [] } }
+        ensures gathered { (p : ParamsValue) (columns : Columns) → HasGathered self.old p columns
+            → HasGathered self.new p columns }
+        ensures nothing { self.new.frames ≡ [] }
+        ensures same { self.new.params ≡ self.old.params }
     {
+        if self.whole > 0 {
+            self.drop_whole();
+        }
+    }
+
+    // The frames of the last tick are over: the octets behind them begin their rows.
+    fn drop_whole(&mut self)
+        requires some { 0 < length self.old.frames }
+        ensures octets { (lane j : ℕ) → lane < self.old.params.l → j < self.old.at
+            → slice_index self.new.octets (lane * self.old.params.f + j)
+            ≡ slice_index self.old.octets (lane * self.old.params.f + j) }
+        ensures same { self.new ≡ record self.old { octets = self.new.octets; frames = [] } }
+    {
+        if self.at > 0 {
+            let lanes = self.shape.lanes() as usize;
+            move_each(
+                &mut self.rows,
+                lanes,
+                self.room,
+                self.whole * self.size,
+                self.at,
+            );
+        }
         self.whole = 0;
     }
 
-    /// What each lane gave in a tick: a cell each, or, in the alignment sequence, nothing each.
+    /// What each lane gave in a tick, a cell each.
     pub fn take(&mut self, given: &[Option<LaneCell>])
         requires { length given.now ≡ self.old.params.l }
-        ensures nothing { (lanes : List CellValue) → given.now ≡ map (λ c. None) lanes
-            → self.new ≡ record self.old { frames = [] } }
         ensures goes_on { (p : ParamsValue) (columns : Columns) (column : List CellValue)
             → HasGathered self.old p columns → given.now ≡ map (λ c. Some c) column
             → HasGathered self.new p (columns ++ octet_columns p column) }
@@ -104,134 +142,147 @@ impl Deframer {
             → FramesAre self.new.frames p (length columns) (columns ++ octet_columns p column) }
         ensures same { self.new.params ≡ self.old.params }
     {
-        self.whole = 0;
-        // All lanes give, or none does.
-        if given[0].is_some() {
-            let per_tick = self.per_tick;
-            let mut taken = 0;
-            while taken < per_tick {
-                taken += self.take_octets(given, taken);
-            }
+        self.rest();
+        let worst = put(&mut self.rows, given, self.room, self.at, self.per_tick);
+        let (whole, at) = frames_with(self.frames, self.size, self.at + self.per_tick);
+        self.first = self.mark.worse(worst);
+        self.others = worst;
+        self.mark = mark_behind(whole, at, self.first, worst);
+        self.whole = whole;
+        self.at = at;
+    }
+
+    /// How many frames became whole in the last tick.
+    pub fn whole(&self) -> usize
+        ensures count { result ≡ length self.now.frames }
+        ensures few { result ≤ 8 }
+    {
+        self.whole
+    }
+
+    /// The mark of frame `i` of them, the oldest one first.
+    pub fn mark(&self, i: usize) -> Mark
+        requires { i < length self.now.frames }
+        ensures { result ≡ (get_or self.now.frames i no_frame).mark }
+    {
+        if i == 0 { self.first } else { self.others }
+    }
+
+    /// Writes the octets of frame `i` of them: L·F octets, lane 0's first.
+    pub fn write_frame(&self, i: usize, octets: &mut [u8])
+        requires inside { i < length self.now.frames }
+        requires size { length octets.old ≡ self.now.params.l * self.now.params.f }
+        ensures { octets.new ≡ (get_or self.now.frames i no_frame).octets }
+    {
+        let size = self.size;
+        for lane in 0..self.shape.lanes() as usize {
+            let from = lane * self.room + i * size;
+            octets[lane * size..(lane + 1) * size].copy_from_slice(&self.rows[from..from + size]);
         }
     }
 
-    // The octets of each lane's cell from octet j on that are of one frame. How many these are.
-    fn take_octets(&mut self, given: &[Option<LaneCell>], j: u32) -> u32
-        requires lanes { length given.now ≡ self.old.params.l }
-        requires j { j < octets_per_tick self.old.params }
-        requires room { length self.old.frames < octets_per_tick self.old.params }
-        ensures gathers { GathersOn self.old self.new given.now j result }
-        ensures within { j + result ≤ octets_per_tick self.old.params }
+    /// The octets of a frame on a lane.
+    pub fn size(&self) -> u32
+        ensures value { result ≡ self.now.params.f }
+        ensures most { result ≤ 256 }
     {
-        let size = self.shape.frame_octets();
-        let count = (size - self.at).min(self.per_tick - j);
-        self.put(given, j, count);
-        let at = self.at + count;
-        if at < size {
-            self.at = at;
-        } else {
-            self.finish();
-        }
-        count
-    }
-
-    // The octets of a whole frame are there.
-    fn finish(&mut self)
-        requires room { length self.old.frames < octets_per_tick self.old.params }
-        ensures { HasFinished self.old self.new }
-    {
-        let frame = &mut self.frames[self.whole];
-        swap(&mut self.octets, &mut frame.octets);
-        frame.mark = self.mark;
-        self.whole += 1;
-        self.begin();
-    }
-
-    // So many octets of each lane's cell, from octet j on, at the same places of the frame.
-    fn put(&mut self, given: &[Option<LaneCell>], j: u32, count: u32)
-        requires lanes { length given.now ≡ self.old.params.l }
-        requires some { 0 < count }
-        requires cell { j + count ≤ octets_per_tick self.old.params }
-        requires frame { self.old.at + count ≤ self.old.params.f }
-        ensures { HasPut self.old self.new given.now j count }
-    {
-        let size = self.shape.frame_octets() as usize;
-        let behind = 8 * (self.per_tick - j - count);
-        let (first, count) = (self.at as usize, count as usize);
-        let mut mark = self.mark;
-        for (lane, cell) in given.iter().enumerate() {
-            if let Some(cell) = cell {
-                let place = lane * size + first;
-                write_octets(&mut self.octets, place, count, cell.value >> behind);
-                mark = mark.worse(cell.mark);
-            }
-        }
-        self.mark = mark;
-    }
-
-    /// The frames that became whole in the last tick, oldest first.
-    pub fn frames(&self) -> &[Frame]
-        ensures frames { result.now ≡ self.now.frames }
-        ensures few { length result.now ≤ 8 }
-    {
-        &self.frames[..self.whole]
+        self.size as u32
     }
 
     /// How many octets of each lane are there of the frame that is not whole.
     pub fn begun(&self) -> u32
-        ensures { result ≡ self.now.at }
+        ensures begun { result ≡ self.now.at }
+        ensures few { result ≤ 256 }
     {
-        self.at
+        self.at as u32
     }
 }
 
-// Writes the last `count` octets of a value at a place, the most significant first. A frame has
-// mostly a power of two of octets: for those counts, constants here, the loop is laid out.
-fn write_octets(octets: &mut [u8], place: usize, count: usize, value: u64)
-    requires place { place + count ≤ length octets.old }
-    requires few { count ≤ 8 }
-    ensures { IsWritten octets.old octets.new place count
-        (λ i. value / 2 ^ (8 * (count - 1 - i)) % 256) }
+// How many frames so many octets of a lane are, `size` octets each, and how many octets are left.
+// Where `frames` is not 0 it is the number of them.
+fn frames_with(frames: usize, size: usize, octets: usize) -> (usize, usize)
+    requires some { 0 < size }
+    requires all { 0 < frames → frames * size ≡ octets }
+    ensures count { result.0 * size + result.1 ≡ octets }
+    ensures within { result.1 < size }
+    ensures whole { 0 < frames → result.1 ≡ 0 }
 {
-    match count {
-        1 => write_each(octets, place, 1, value),
-        2 => write_each(octets, place, 2, value),
-        4 => write_each(octets, place, 4, value),
-        8 => write_each(octets, place, 8, value),
-        _ => write_each(octets, place, count, value),
+    if frames > 0 {
+        (frames, 0)
+    } else if octets < size {
+        (0, octets)
+    } else if octets - size < size {
+        (1, octets - size)
+    } else {
+        (octets / size, octets % size)
     }
 }
 
-// The same, an octet at a time.
-#[inline(always)]
-fn write_each(octets: &mut [u8], place: usize, count: usize, value: u64)
-    requires place { place + count ≤ length octets.old }
-    requires few { count ≤ 8 }
-    ensures { IsWritten octets.old octets.new place count
-        (λ i. value / 2 ^ (8 * (count - 1 - i)) % 256) }
+// The worst mark of the `at` octets behind so many frames. `all`: that of all octets up to the end
+// of a tick, `worst`: that of this tick's.
+fn mark_behind(whole: usize, at: usize, all: Mark, worst: Mark) -> Mark
+    ensures { result ≡ (if whole == 0 then all else (if at == 0 then mark.Ok else worst)) }
 {
-    for i in 0..count {
-        octets[place + i] = ((value >> (8 * (count - 1 - i) as u32)) % 256) as u8;
+    if whole == 0 {
+        all
+    } else if at == 0 {
+        Mark::Ok
+    } else {
+        worst
     }
 }
 
-// Room for the frames that may become whole in a tick, of `size` octets each.
-fn open_frames(alloc: Global, shape: &Shape, size: usize) -> Result<Vec<Frame>, NoMemory>
-    requires { size ≡ shape.now.l * shape.now.f }
-    ensures { IfOk result (λ v. HaveFrameSizes shape.now v.items) }
+// The last `count` octets of each lane's cell, behind the first `at` octets of its row of `room`.
+// The worst of their marks.
+fn put(rows: &mut [u8], given: &[Option<LaneCell>], room: usize, at: usize, count: usize) -> Mark
+    requires size { length rows.old ≡ length given.now * room }
+    requires within { at + count ≤ room }
+    requires one_or_eight { (count ≡ 1) ⊎ (count ≡ 8) }
+    ensures { IsPut rows.old rows.new given.now room at count result }
 {
-    let mut frames = Vec::new(alloc);
-    for _ in 0..shape.octets_per_tick() {
-        let Ok(octets) = vec![in alloc; 0u8; size] else {
-            return Err(NoMemory);
-        };
-        let frame = Frame {
-            mark: Mark::Ok,
-            octets,
-        };
-        if frames.push(frame).is_err() {
-            return Err(NoMemory);
+    let mut worst = Mark::Ok;
+    for (lane, cell) in given.iter().enumerate() {
+        if let Some(cell) = cell {
+            write_octets(rows, lane * room + at, count, cell.value);
+            worst = worst.worse(cell.mark);
         }
     }
-    Ok(frames)
+    worst
+}
+
+// Writes the last `count` octets of a value at a place, the most significant first: one, or eight.
+fn write_octets(octets: &mut [u8], place: usize, count: usize, value: u64)
+    requires place { place + count ≤ length octets.old }
+    requires one_or_eight { (count ≡ 1) ⊎ (count ≡ 8) }
+    ensures { IsWritten octets.old octets.new place count
+        (λ i. value / 2 ^ (8 * (count - 1 - i)) % 256) }
+{
+    if count == 1 {
+        octets[place] = (value % 256) as u8;
+    } else {
+        octets[place..place + 8].copy_from_slice(&value.to_be_bytes());
+    }
+}
+
+// The `count` octets from octet `from` on of each lane's row of `room` come to its beginning.
+fn move_each(rows: &mut [u8], lanes: usize, room: usize, from: usize, count: usize)
+    requires size { length rows.old ≡ lanes * room }
+    requires behind { count ≤ from }
+    requires within { from + count ≤ room }
+    ensures { AreMoved rows.old rows.new lanes room from count }
+{
+    for lane in 0..lanes {
+        move_octets(rows, lane * room, from, count);
+    }
+}
+
+// Those of the row that begins at `start`.
+fn move_octets(rows: &mut [u8], start: usize, from: usize, count: usize)
+    requires behind { count ≤ from }
+    requires within { start + from + count ≤ length rows.old }
+    ensures { IsWritten rows.old rows.new start count (λ i. slice_index rows.old (start + from + i)) }
+{
+    for i in 0..count {
+        rows[start + i] = rows[start + from + i];
+    }
 }

@@ -9,7 +9,7 @@ ghost use Rattle.scenario.specs.Limits.{what_fits};
 ghost use Rattle.scenario.specs.Plans.{Plan, plan_of};
 ghost use Rattle.link_model.specs.Carried.{dead_after, delay_after};
 ghost use Rattle.link_model.specs.Edges.{is_reset, resets};
-ghost use Rattle.link_run.specs.kept.LaneRuns.{AreAt, HaveRunLanes};
+ghost use Rattle.link_run.specs.kept.LaneRuns.{AreAt, HaveRunLanes, KeepRings};
 ghost use Rattle.link_model.specs.kept.LaneRuns.{LaneRun};
 ghost use Rattle.link_run.specs.kept.Happened.{AreAsBefore, are_past, as_of};
 
@@ -36,6 +36,7 @@ pub fn happen(s: &Scenario, lanes: &mut Lanes, from: usize, t: u32) -> Happened
         → HaveRunLanes lanes.new plan (λ lane. as_of plan t lane (runs lane)) }
     ensures at { (p : ParamsValue) (next : Option ℕ) → AreAt lanes.old p next
         → AreAt lanes.new p next }
+    ensures rings { KeepRings lanes.old lanes.new }
     ensures count { length lanes.new ≡ length lanes.old }
 {
     if s.link.is_none() {
@@ -103,6 +104,7 @@ fn apply_all(lanes: &mut Lanes, events: &[Event])
         }) }
     ensures at { (p : ParamsValue) (next : Option ℕ) → AreAt lanes.old p next
         → AreAt lanes.new p next }
+    ensures rings { KeepRings lanes.old lanes.new }
     ensures count { length lanes.new ≡ length lanes.old }
 {
     for event in events {
@@ -121,6 +123,7 @@ fn apply(lanes: &mut Lanes, what: What)
         }) }
     ensures at { (p : ParamsValue) (next : Option ℕ) → AreAt lanes.old p next
         → AreAt lanes.new p next }
+    ensures rings { KeepRings lanes.old lanes.new }
     ensures count { length lanes.new ≡ length lanes.old }
 {
     match what {

@@ -1,34 +1,41 @@
 //! The lanes of a run.
-ghost use Rattle.std.specs.Prelude.{◌≡◌, ◌≤◌, ◌<◌, ◌+◌, ℕ, [], length, get_or, slice_index, map, fold, max, false, Option, None, All, IfOk, IsTrue};
+ghost use Rattle.std.specs.Prelude.{◌≡◌, ◌≤◌, ◌<◌, ◌+◌, ℕ, suc, [], length, get_or, slice_index, map, fold, max, true, false, Option, None, All, IfOk, IsTrue};
 ghost use Rattle.link_params.specs.declared.fields.Params.{Params as ParamsValue};
+ghost use Rattle.link_params.specs.Laws.{is_b};
+ghost use Rattle.link_params.specs.Numbers.{period};
+ghost use Rattle.bring_up.specs.Decisions.{is_running};
 ghost use Rattle.scenario.specs.Limits.{flip_fits};
 ghost use Rattle.scenario.specs.Plans.{Plan, numbers_from};
-ghost use Rattle.lane_c.specs.kept.Receivers.{IsArmedOn};
-ghost use Rattle.link_model.specs.Kinds.{kind_of};
-ghost use Rattle.link_model.specs.kept.LaneRuns.{LaneRun, given_by, held_by, no_run, stepped};
-ghost use Rattle.lane_threads.specs.kept.LaneEnds.{IsSmall, MayFollow, next_after};
-ghost use Rattle.lane_threads.specs.kept.LaneRuns.{Pair};
-ghost use Rattle.link_run.specs.kept.LaneRuns.{AreAt, HaveEntries, HaveRoom, HaveRunLanes, with_lane};
+ghost use Rattle.link_model.specs.Kinds.{kind_of, moment_of, run_of};
+ghost use Rattle.link_model.specs.kept.LaneRuns.{LaneRun, lane_run, lane_stepped, no_run};
+ghost use Rattle.lane_threads.specs.declared.cell_end.CellEnd.{CellEnd as EndValue};
+ghost use Rattle.lane_threads.specs.declared.lane_pair.LanePair.{LanePair as PairValue};
+ghost use Rattle.lane_threads.specs.kept.LaneEnds.{params_in};
+ghost use Rattle.link_run.specs.kept.Ends.{ArePairs, HaveCells};
+ghost use Rattle.link_run.specs.kept.LaneRuns.{AreAt, AreOnRings, ArePut, AreSameLanes, HaveRings, HaveRunLanes, HaveWidths, KeepRings, with_lane};
+ghost use Rattle.link_run.specs.kept.Segments.{CanCarry, CanGive, IsCarried};
 
 use crate::flips::inverted_bits;
+use crate::segment::Segment;
 use jesd_base::NoMemory;
-use lane_threads::Lane;
-use link_params::{LaneCell, LaneReport, Link, RxOrder, TxOrder};
+use lane_threads::{CellEnd, Gate, LanePair, NoSide, meet, open_line, run_segment};
+use link_params::{LaneReport, Link};
 use scenario::Flip;
 use std::alloc::Global;
 use std::marker::Model;
+use std::thread::Threads;
 
 /// All lanes of a run, in ascending order. Contracts see it as their list.
 #[derive(Drop)]
 pub struct Lanes {
-    pairs: Vec<Lane>,
+    pairs: Vec<LanePair>,
 }
 
 impl Model for Lanes {
     ghost use Rattle.std.specs.Prelude.{◌≤◌, List, vec_len};
-    ghost use Rattle.lane_threads.specs.kept.LaneRuns.{Pair};
+    ghost use Rattle.lane_threads.specs.declared.lane_pair.LanePair.{LanePair};
 
-    ghost Value = { List Pair };
+    ghost Value = { List LanePair };
 
     ghost view = { λ l. l.pairs.items };
 
@@ -36,46 +43,87 @@ impl Model for Lanes {
 }
 
 impl Lanes {
-    /// The lanes before the first tick of a run of so many ticks; `NoMemory` where there is none.
-    pub fn open(alloc: Global, link: &Link, flips: &[Flip], ticks: u32) -> Result<Lanes, NoMemory>
+    /// The lanes before the first tick of a run of so many ticks, and the other ends of their
+    /// rings. All their memory is taken here; `NoMemory` where there is none.
+    pub fn open(
+        alloc: Global,
+        link: &Link,
+        flips: &[Flip],
+        ticks: u32,
+    ) -> Result<(Lanes, Vec<CellEnd>), NoMemory>
+        requires some { 0 < ticks }
         requires ticks { ticks ≤ 1048576 }
         requires flips { All (λ f. IsTrue (flip_fits link.now.params ticks f)) flips.now }
         ensures begins { (s : Plan) → s.link ≡ link.now → s.flips ≡ flips.now → s.ticks ≡ ticks
-            → IfOk result (λ l. HaveRunLanes l s (λ lane. no_run s)) }
-        ensures at { IfOk result (λ l. AreAt l link.now.params None) }
-        ensures lanes { IfOk result (λ l. length l ≡ link.now.params.l) }
+            → IfOk result (λ r. HaveRunLanes r.0 s (λ lane. no_run s) × HaveRings r.0 s 0 0) }
+        ensures ends { (s : Plan) → IfOk result (λ r. HaveCells r.1.items s 0 0) }
+        ensures pairs { IfOk result (λ r. ArePairs r.0 r.1.items) }
+        ensures at { IfOk result (λ r. AreAt r.0 link.now.params None) }
+        ensures lanes { IfOk result (λ r. length r.0 ≡ link.now.params.l) }
     {
         let mut pairs = Vec::new(alloc);
+        let mut ends = Vec::new(alloc);
         for lane in 0..link.shape().lanes() {
-            let inverted = inverted_bits(alloc, flips, lane)?;
-            let pair = Lane::open(alloc, link, lane, inverted)?;
-            if pairs.push(pair).is_err() {
+            let line = open_line(alloc, link, inverted_bits(alloc, flips, lane)?)?;
+            let (pair, end) = LanePair::open(alloc, link, lane, line, ticks)?;
+            if pairs.push(pair).is_err() || ends.push(end).is_err() {
                 return Err(NoMemory);
             }
         }
-        Ok(Lanes { pairs })
+        Ok((Lanes { pairs }, ends))
     }
 
-    /// A tick of each lane: the order of all transmitter ends, the octets that each one is handed as
-    /// a number, lane 0's first, and the order of all receiver ends.
-    pub fn step(&mut self, order: TxOrder, handed: &[u64], told: &RxOrder)
-        requires follows { (lane : ℕ) (d : Pair) → lane < length self.old
-            → MayFollow (get_or self.old lane d).tx order }
-        requires small { (lane : ℕ) (d : Pair) → lane < length self.old
-            → IsSmall (get_or self.old lane d).tx (slice_index handed.now lane) }
-        requires room { told.now.hunt ≡ false → HaveRoom self.old }
+    /// Each lane, in ascending order.
+    pub fn pairs(&self) -> &[LanePair]
+        ensures { result.now ≡ self.now }
+    {
+        self.pairs.as_slice()
+    }
+
+    /// What each lane is handed in tick `i` of the next segment, lane 0's first: the octets of the
+    /// tick as one number, the first one most significant.
+    pub fn put(&mut self, i: u32, handed: &[u64])
         requires lanes { length self.old ≤ length handed.now }
-        ensures goes_on { (s : Plan) (runs : ℕ → LaneRun) → HaveRunLanes self.old s runs
-            → (told.now.hunt ≡ false
-            → (lane : ℕ) → lane < s.link.params.l → IsArmedOn (runs lane).taken told.now)
-            → HaveRunLanes self.new s (λ lane. stepped (kind_of s.link.params) s lane (runs lane) order (slice_index handed.now lane) told.now) }
-        ensures at { (p : ParamsValue) (next : Option ℕ) → AreAt self.old p next
-            → AreAt self.new p (next_after p order) }
-        ensures lanes { length self.new ≡ length self.old }
+        requires inside { (lane : ℕ) (d : PairValue) → lane < length self.old
+            → i < period (params_in (get_or self.old lane d).lane.tx) }
+        requires widths { HaveWidths self.old }
+        requires small { (lane : ℕ) (d : PairValue) → lane < length self.old
+            → is_b (params_in (get_or self.old lane d).lane.tx).mode ≡ true
+            → slice_index handed.now lane < 256 }
+        ensures put { ArePut self.old self.new i handed.now }
+        ensures same { AreSameLanes self.old self.new }
     {
         for (lane, pair) in self.pairs.iter_mut().enumerate() {
-            pair.step(order, handed[lane], told);
+            pair.put(i, handed[lane]);
         }
+    }
+
+    /// Each lane runs the segment, on at most so many workers.
+    pub fn carry<R: Threads + Sync, G: Gate>(
+        &mut self,
+        rt: &R,
+        workers: u32,
+        segment: &Segment,
+        gate: &G,
+    )
+        requires workers { 0 < workers }
+        requires can { CanCarry self.old segment.now }
+        ensures ran { (s : Plan) (t m : ℕ) (first last : Option ℕ)
+            → IsCarried self.old segment.now s t m first last
+            → HaveRunLanes self.new s (lane_stepped (kind_of s.link.params) s (run_of s (t + m)))
+            × HaveRings self.new s (t + m) (t + suc m)
+            × AreAt self.new s.link.params last }
+        ensures rings { AreOnRings self.old self.new }
+    {
+        run_segment(
+            rt,
+            workers,
+            self.pairs.as_mut_slice(),
+            segment.steps(),
+            segment.gives(),
+            gate,
+            &mut NoSide,
+        );
     }
 
     /// Writes the report of each lane.
@@ -89,32 +137,50 @@ impl Lanes {
         }
     }
 
-    /// The most entries that any lane holds, or `most` where that is more.
-    pub fn fullest(&self, most: u32) -> u32
-        ensures { (s : Plan) (runs : ℕ → LaneRun) → HaveRunLanes self.now s runs
-            → result ≡ fold max most (map (held_by (kind_of s.link.params) s runs) (numbers_from 0 s.link.params.l)) }
+    /// The most entries that any lane held.
+    pub fn fullest(&self) -> u32
+        ensures { result ≡ fold max 0 (map (λ a. a.fullest) self.now) }
     {
-        let mut most = most;
+        let mut most = 0u32;
         for pair in &self.pairs {
-            most = most.max(pair.held());
+            most = most.max(pair.fullest());
         }
         most
     }
 
-    /// Each lane gives its oldest entry: nothing for a place of the alignment sequence.
-    pub fn give(&mut self, given: &mut [Option<LaneCell>])
-        requires count { length given.old ≡ length self.old }
-        requires entries { HaveEntries self.old }
-        ensures given { (s : Plan) (runs : ℕ → LaneRun) → HaveRunLanes self.old s runs
-            → given.new ≡ map (given_by (kind_of s.link.params) s runs) (numbers_from 0 s.link.params.l) }
-        ensures goes_on { (s : Plan) (runs : ℕ → LaneRun) → HaveRunLanes self.old s runs
-            → HaveRunLanes self.new s (λ lane. record (runs lane) { gave = (runs lane).gave + 1 }) }
+    /// Each lane gives its oldest entry, which is sent on its ring where it is a cell.
+    pub fn give(&mut self)
+        requires { CanGive self.old }
+        ensures gave { (s : Plan) (t : ℕ)
+            → HaveRunLanes self.old s (lane_stepped (kind_of s.link.params) s (run_of s t))
+            → HaveRings self.old s t (suc t) → is_running (moment_of s (run_of s t)).stage ≡ true
+            → HaveRunLanes self.new s (lane_run s (run_of s (suc t)))
+            × HaveRings self.new s (suc t) (suc t) }
         ensures at { (p : ParamsValue) (next : Option ℕ) → AreAt self.old p next
             → AreAt self.new p next }
-        ensures lanes { length self.new ≡ length self.old }
+        ensures rings { AreOnRings self.old self.new }
     {
-        for lane in 0..self.pairs.as_slice().len() {
-            given[lane] = self.pairs[lane].give();
+        for pair in self.pairs.iter_mut() {
+            pair.give();
+        }
+    }
+
+    /// Both ends of each ring meet: afterwards the ends know of all cells that were sent and not
+    /// received.
+    pub fn meet(&mut self, ends: &mut [CellEnd])
+        requires pairs { ArePairs self.old ends.old }
+        ensures pairs { ArePairs self.new ends.new }
+        ensures knows { (s : Plan) (t n : ℕ) → HaveRings self.old s (t + n) (t + n)
+            → HaveCells ends.old s t 0 → HaveCells ends.new s t n }
+        ensures lanes { (s : Plan) (runs : ℕ → LaneRun) → HaveRunLanes self.old s runs
+            → HaveRunLanes self.new s runs }
+        ensures rings { (s : Plan) (given held : ℕ) → HaveRings self.old s given held
+            → HaveRings self.new s given held }
+        ensures at { (p : ParamsValue) (next : Option ℕ) → AreAt self.old p next
+            → AreAt self.new p next }
+    {
+        for lane in 0..ends.len() {
+            meet(&mut self.pairs[lane], &mut ends[lane]);
         }
     }
 
@@ -124,6 +190,7 @@ impl Lanes {
             → HaveRunLanes self.new s (λ lane. record (runs lane) { handed = [] }) }
         ensures at { (p : ParamsValue) (next : Option ℕ) → AreAt self.old p next
             → AreAt self.new p None }
+        ensures rings { KeepRings self.old self.new }
         ensures lanes { length self.new ≡ length self.old }
     {
         for pair in self.pairs.iter_mut() {
@@ -134,11 +201,12 @@ impl Lanes {
     /// From this tick on a lane delays by so many bits.
     pub fn set_delay(&mut self, lane: u32, bits: u32)
         requires lane { lane < length self.old }
-        requires bits { (d : Pair) → bits ≤ (get_or self.old lane d).line.set.reach }
+        requires bits { (d : PairValue) → bits ≤ (get_or self.old lane d).lane.line.set.reach }
         ensures goes_on { (s : Plan) (runs : ℕ → LaneRun) → HaveRunLanes self.old s runs
             → HaveRunLanes self.new s (with_lane runs lane (record (runs lane) { delay = bits })) }
         ensures at { (p : ParamsValue) (next : Option ℕ) → AreAt self.old p next
             → AreAt self.new p next }
+        ensures rings { KeepRings self.old self.new }
         ensures lanes { length self.new ≡ length self.old }
     {
         self.pairs[lane as usize].set_delay(bits);
@@ -151,6 +219,7 @@ impl Lanes {
             → HaveRunLanes self.new s (with_lane runs lane (record (runs lane) { dead = dead })) }
         ensures at { (p : ParamsValue) (next : Option ℕ) → AreAt self.old p next
             → AreAt self.new p next }
+        ensures rings { KeepRings self.old self.new }
         ensures lanes { length self.new ≡ length self.old }
     {
         self.pairs[lane as usize].set_dead(dead);

@@ -1,214 +1,281 @@
 //! Both ends of a link, and the lanes between them.
-ghost use Rattle.std.specs.Prelude.{◌≡◌, ◌≤◌, ◌<◌, ◌+◌, ◌*◌, ◌++◌, ◌∷◌, [], ℕ, length, Option, None, Some, fold, max, if◌then◌else◌, All, IfOk, IfSome};
-ghost use Rattle.std.specs.List.{flat_map};
+ghost use Rattle.std.specs.Prelude.{◌≡◌, ◌≤◌, ◌<◌, ◌==◌, ◌+◌, ◌*◌, [], ℕ, suc, length, fold, map, max, if◌then◌else◌, Option, None, Some, All, IfOk, IfSome};
 ghost use Rattle.link_params.specs.declared.fields.Params.{Params as ParamsValue};
-ghost use Rattle.bring_up.specs.declared.stage.Stage.TheVariants as stage;
-ghost use Rattle.bring_up.specs.Decisions.{is_hunting};
 ghost use Rattle.scenario.specs.Plans.{Plan, plan_of};
 ghost use Rattle.link_model.specs.Kinds.{run_of};
-ghost use Rattle.link_model.specs.kept.Before.{Columns};
-ghost use Rattle.link_run.specs.kept.Gathered.{HasGathered, Whole};
-ghost use Rattle.link_run.specs.kept.LaneRuns.{AreAt, HaveRunLanes};
 ghost use Rattle.link_model.specs.kept.LaneRuns.{LaneRun};
-ghost use Rattle.link_run.specs.kept.LinkStates.{CanGive, CanStep, HasGiven, HasHappened, HasRun, HasStepped};
+ghost use Rattle.link_run.specs.kept.Gathered.{Whole};
+ghost use Rattle.link_run.specs.kept.LaneRuns.{AreAt, HaveRunLanes, KeepRings};
+ghost use Rattle.link_run.specs.kept.LinkStates.{HasCarriedOn, HasEnded, HasHappened, HasRun, HasSegment, alarms_in, decision_in, reset_in, runs_in, seen_in};
 ghost use Rattle.link_run.specs.kept.Reported.{IsSeen};
 
+use crate::collector::Collector;
 use crate::deframer::Deframer;
 use crate::events::happen;
-use crate::frame::Frame;
 use crate::happened::Happened;
 use crate::lanes::Lanes;
-use crate::receiver::Receiver;
+use crate::planner::Planner;
+use crate::segment::Segment;
 use crate::ticked::Ticked;
-use crate::transmitter::Transmitter;
-use bring_up::{AlarmRow, Stage};
+use crate::transmitter::data_place;
+use bring_up::{AlarmRow, Decision};
 use jesd_base::NoMemory;
-use link_params::{LaneCell, Link, RxOrder, TxOrder};
+use lane_threads::{CellEnd, Gate, LanePair};
+use link_params::Link;
 use scenario::Scenario;
 use std::alloc::Global;
 use std::marker::Model;
+use std::thread::Threads;
 
 /// Both ends of a link, and the lanes between them.
 #[derive(Drop)]
 pub struct LinkState {
     link: Link,
-    next: usize,
-    tx: Transmitter,
-    rx: Receiver,
+    planner: Planner,
     lanes: Lanes,
-    given: Vec<Option<LaneCell>>,
-    deframer: Deframer,
+    // The segment that ran last, what the receiver decided at its end, and whether the link runs
+    // after it.
+    segment: Segment,
+    decision: Decision,
+    released: bool,
+    collector: Collector,
+    no_alarms: AlarmRow,
 }
 
 impl Model for LinkState {
-    ghost use Rattle.std.specs.Prelude.{◌≡◌};
+    ghost use Rattle.std.specs.Prelude.{◌≡◌, []};
     ghost use Rattle.link_run.specs.kept.LinkStates.{LinkView};
 
     ghost Value = { LinkView };
 
     ghost view = { λ l. record {
       link = l.link;
-      next = l.next;
-      tx = l.tx;
-      rx = l.rx;
+      planning = l.planner;
       lanes = l.lanes;
-      given =
-          l.given.items;
-      gathering = l.deframer;
+      segment = l.segment;
+      decision =
+          l.decision;
+      released = l.released;
+      collecting = l.collector;
     } };
+
+    ghost invariant = { λ l. l.no_alarms ≡ [] };
 }
 
 impl LinkState {
-    /// Both ends of this link, and its lanes, before the first tick. `NoMemory` where there is too
-    /// little of it.
+    /// Both ends of this link, and its lanes, before the first tick. All memory of the run but that
+    /// of its text is taken here; `NoMemory` where there is too little of it.
     pub fn open(alloc: Global, s: &Scenario, link: &Link) -> Result<LinkState, NoMemory>
         requires link { s.now.link ≡ Some link.now }
         ensures stands { (plan : Plan) → plan_of s.now ≡ Some plan
-            → IfOk result (λ l. HasRun l plan []) }
+            → IfOk result (λ l. HasRun l plan 0) }
         ensures same { IfOk result (λ l. l.link ≡ link.now) }
     {
-        let lanes = Lanes::open(alloc, link, s.flips.as_slice(), s.ticks)?;
-        let Ok(given) = vec![in alloc; None; link.shape().lanes() as usize] else {
-            return Err(NoMemory);
-        };
+        let (lanes, ends) = Lanes::open(alloc, link, s.flips.as_slice(), s.ticks)?;
         Ok(LinkState {
             link: *link,
-            next: 0,
-            tx: Transmitter::open(alloc, s, link)?,
-            rx: Receiver::open(alloc, s, link)?,
+            planner: Planner::open(alloc, s, link)?,
             lanes,
-            given,
-            deframer: Deframer::open(alloc, &link.shape())?,
+            segment: Segment::open(alloc, link.shape().period())?,
+            decision: Decision::Stay,
+            released: false,
+            collector: Collector::open(alloc, link, ends)?,
+            no_alarms: AlarmRow::new(),
         })
     }
 
-    /// Tick `t`; `most`: the most entries that any lane held in the ticks before.
-    pub fn tick(&mut self, s: &Scenario, t: u32, most: u32) -> Ticked
+    /// Runs the segment that begins with tick `t`, its lanes on at most so many workers: how many
+    /// ticks it has.
+    pub fn run<R: Threads + Sync, G: Gate>(
+        &mut self,
+        rt: &R,
+        s: &Scenario,
+        t: u32,
+        workers: u32,
+        gate: &G,
+    ) -> u32
         requires tick { t < s.now.ticks }
         requires link { s.now.link ≡ Some self.old.link }
-        requires most { (plan : Plan) → plan_of s.now ≡ Some plan
-            → most ≡ fold max 0 (flat_map (λ m. m.held) (run_of plan t)) }
-        requires stands { (plan : Plan) → plan_of s.now ≡ Some plan
-            → HasRun self.old plan (run_of plan t) }
-        ensures seen { (plan : Plan) → plan_of s.now ≡ Some plan
-            → IsSeen result self.new.rx.alarms self.new.gathering.frames self.new.gathering.at plan (run_of plan t) }
-        ensures goes_on { (plan : Plan) → plan_of s.now ≡ Some plan
-            → HasRun self.new plan (run_of plan (t + 1)) }
-        ensures place { IfSome result.place (λ x. x < 1024) }
-        ensures octets { All (λ (f : Whole). length f.octets ≡ s.now.shape.l * s.now.shape.f) self.new.gathering.frames }
-        ensures begun { self.new.gathering.at ≤ 256 }
+        requires workers { 0 < workers }
+        requires stands { (plan : Plan) → plan_of s.now ≡ Some plan → HasRun self.old plan t }
+        ensures ran { (plan : Plan) → plan_of s.now ≡ Some plan
+            → (m : ℕ) × (result ≡ suc m) × HasSegment self.new plan t m 0 }
+        ensures some { 0 < result }
+        ensures within { t + result ≤ s.now.ticks }
         ensures same { self.new.link ≡ self.old.link }
     {
+        let _shape = self.link.shape();
+        let _timing = self.link.timing();
         let happened = self.happen(s, t);
-        let sent = self.tx.tick(s, &self.link, t, happened.tx_reset);
-        let told = self.rx.tell(s, &self.link, t, happened.rx_reset);
-        self.step(s, t, sent.order, &told.told);
-        let fullest = self.lanes.fullest(most);
-        let decision = self.rx.end(s, t, &self.lanes, told.decides);
-        self.tx.end(is_low(self.rx.stage()));
-        self.give(s, t);
-        Ticked {
-            rx_reset: happened.rx_reset,
-            tx_off: sent.off,
-            rx_off: told.off,
-            place: sent.place,
-            decision,
-            fullest,
-        }
-    }
-
-    /// The alarms of the last tick's decision.
-    pub fn alarms(&self) -> &AlarmRow
-        ensures alarms { result.now ≡ self.now.rx.alarms }
-        ensures few { length result.now ≤ 34 }
-    {
-        self.rx.alarms()
-    }
-
-    /// The frames that were delivered in the last tick, oldest first, and how many octets of each
-    /// lane are there of the one that is not whole.
-    pub fn delivered(&self) -> (&[Frame], u32)
-        ensures frames { result.0.now ≡ self.now.gathering.frames }
-        ensures few { length result.0.now ≤ 8 }
-        ensures begun { result.1 ≡ self.now.gathering.at }
-    {
-        (self.deframer.frames(), self.deframer.begun())
+        let (lanes, segment) = (&mut self.lanes, &mut self.segment);
+        self.planner.plan(s, t, &happened, lanes, segment);
+        self.lanes.carry(rt, workers, &self.segment, gate);
+        let count = self.segment.len() as u32;
+        self.end(s, t + (count - 1));
+        self.collector.meet(&mut self.lanes);
+        count
     }
 
     // The events of tick `t` happen.
     fn happen(&mut self, s: &Scenario, t: u32) -> Happened
         requires tick { t < s.now.ticks }
         requires link { s.now.link ≡ Some self.old.link }
-        requires stands { (plan : Plan) → plan_of s.now ≡ Some plan
-            → HasRun self.old plan (run_of plan t) }
+        requires stands { (plan : Plan) → plan_of s.now ≡ Some plan → HasRun self.old plan t }
         ensures { (plan : Plan) → plan_of s.now ≡ Some plan
-            → HasHappened result self.old self.new plan (run_of plan t) }
+            → HasHappened result self.old self.new plan t }
     {
-        let happened = happen(s, &mut self.lanes, self.next, t);
-        self.next = happened.next;
+        let happened = happen(s, &mut self.lanes, self.planner.next(), t);
         clear_if(&mut self.lanes, happened.tx_reset);
         happened
     }
 
-    // Each lane sends and takes tick `t`.
-    fn step(&mut self, s: &Scenario, t: u32, order: TxOrder, told: &RxOrder)
+    // The segment's last tick, tick `t`, is over: where it is a release point the receiver decides,
+    // and where the link runs then each lane gives an entry.
+    fn end(&mut self, s: &Scenario, t: u32)
         requires link { s.now.link ≡ Some self.old.link }
         requires can { (plan : Plan) → plan_of s.now ≡ Some plan
-            → CanStep self.old order told.now plan (run_of plan t) }
-        ensures { (plan : Plan) → plan_of s.now ≡ Some plan
-            → HasStepped order self.old self.new plan (run_of plan t) }
-    {
-        clear_frame(&mut self.deframer, told.hunt);
-        let _shape = self.link.shape();
-        let _timing = self.link.timing();
-        self.lanes.step(order, self.tx.handed(), told);
-    }
-
-    // Where the link is released each lane gives an entry, and the frames that are whole with them
-    // are delivered.
-    fn give(&mut self, s: &Scenario, t: u32)
-        requires link { s.now.link ≡ Some self.old.link }
-        requires can { (plan : Plan) → plan_of s.now ≡ Some plan
-            → CanGive self.old plan (run_of plan t) }
-        ensures gave { (plan : Plan) → plan_of s.now ≡ Some plan
-            → HasGiven self.new plan (run_of plan t) }
-        ensures at { (p : ParamsValue) (next : Option ℕ) → AreAt self.old.lanes p next
-            → AreAt self.new.lanes p next }
+            → (from m : ℕ) × (t ≡ from + m) × HasCarriedOn self.old plan from m }
+        ensures ended { (plan : Plan) (from m : ℕ) → plan_of s.now ≡ Some plan → t ≡ from + m
+            → HasCarriedOn self.old plan from m → HasEnded self.new plan from m }
         ensures same { self.new ≡ record self.old {
+          planning = self.new.planning;
           lanes = self.new.lanes;
-          given =
-              self.new.given;
-          gathering = self.new.gathering;
+          decision =
+              self.new.decision;
+          released = self.new.released;
         } }
     {
         let _shape = self.link.shape();
         let _timing = self.link.timing();
-        match self.rx.stage() {
-            Stage::Run => {
-                self.lanes.give(&mut self.given);
-                self.deframer.take(&self.given);
-            }
-            Stage::Hunt | Stage::Wait => self.deframer.rest(),
+        self.decision = self.planner.end(s, t, &self.lanes, self.segment.decides());
+        self.released = self.planner.is_released();
+        if self.released {
+            self.lanes.give();
         }
     }
-}
 
-// Whether SYNC~ is low at this stage of the receiver.
-fn is_low(stage: Stage) -> bool
-    ensures { result ≡ is_hunting stage }
-{
-    match stage {
-        Stage::Hunt => true,
-        Stage::Wait | Stage::Run => false,
+    /// Takes what the lanes gave in tick `i` of the segment that ran last; the ticks before it were
+    /// taken.
+    pub fn collect(&mut self, i: usize) -> Ticked
+        requires inside { i < length self.old.segment.steps }
+        requires has { (s : Plan) × (t : ℕ) × (m : ℕ) × HasSegment self.old s t m i }
+        ensures seen { (s : Plan) (t m : ℕ) → HasSegment self.old s t m i → i ≤ m
+            → IsSeen result (alarms_in self.old i) self.new.collecting.gathering.frames self.new.collecting.gathering.at s (run_of s (t + i)) }
+        ensures goes_on { (s : Plan) (t m : ℕ) → HasSegment self.old s t m i → i ≤ m
+            → HasSegment self.new s t m (suc i)
+            × All (λ (f : Whole). length f.octets ≡ s.link.params.l * s.link.params.f) self.new.collecting.gathering.frames
+            × (self.new.collecting.gathering.at ≤ 256) }
+        ensures place { IfSome result.place (λ x. x < 1024) }
+        ensures same { self.new ≡ record self.old { collecting = self.new.collecting } }
+    {
+        let _shape = self.link.shape();
+        let _timing = self.link.timing();
+        let seen = self.seen(i);
+        let hunt = self.segment.steps()[i].rx.hunt;
+        let runs = self.runs(i);
+        self.collector.take(hunt, runs);
+        seen
     }
-}
 
-fn clear_frame(deframer: &mut Deframer, hunts: bool)
-    ensures gathered { (p : ParamsValue) (columns : Columns) → HasGathered deframer.old p columns
-        → HasGathered deframer.new p (if hunts then [] else columns) }
-{
-    if hunts {
-        deframer.clear();
+    // What is seen of tick `i` of the segment that ran last.
+    fn seen(&self, i: usize) -> Ticked
+        requires inside { i < length self.now.segment.steps }
+        requires edges { i < length self.now.segment.edges }
+        ensures { result ≡ seen_in self.now i }
+    {
+        let (step, edges) = (self.segment.steps()[i], self.segment.edges()[i]);
+        Ticked {
+            rx_reset: self.is_reset(i),
+            tx_off: edges.tx,
+            rx_off: edges.rx,
+            place: data_place(step.tx),
+            decision: self.decision(i),
+        }
+    }
+
+    // Whether the receiver was reset in it.
+    fn is_reset(&self, i: usize) -> bool
+        ensures { result ≡ reset_in self.now i }
+    {
+        i == 0 && self.segment.rx_reset()
+    }
+
+    // Whether it is the last one of its segment.
+    fn is_last(&self, i: usize) -> bool
+        requires inside { i < length self.now.segment.steps }
+        ensures { result ≡ (i + 1 == length self.now.segment.steps) }
+    {
+        let count = self.segment.len();
+        i + 1 == count
+    }
+
+    // Whether the link runs after it.
+    fn runs(&self, i: usize) -> bool
+        requires inside { i < length self.now.segment.steps }
+        ensures { result ≡ runs_in self.now i }
+    {
+        if self.is_last(i) {
+            self.released
+        } else {
+            self.segment.gives()
+        }
+    }
+
+    // What the receiver decided in it.
+    fn decision(&self, i: usize) -> Decision
+        requires inside { i < length self.now.segment.steps }
+        ensures { result ≡ decision_in self.now i }
+    {
+        if self.is_last(i) {
+            self.decision
+        } else {
+            Decision::Stay
+        }
+    }
+
+    /// The alarms of the decision in tick `i` of the segment that ran last.
+    pub fn alarms(&self, i: usize) -> &AlarmRow
+        requires inside { i < length self.now.segment.steps }
+        ensures alarms { result.now ≡ alarms_in self.now i }
+        ensures few { length result.now ≤ 34 }
+    {
+        if self.is_last(i) {
+            let alarms = self.planner.alarms();
+            // This call's clause says that a row has at most 34 alarms.
+            let _count = alarms.len();
+            alarms
+        } else {
+            &self.no_alarms
+        }
+    }
+
+    /// The frames that were delivered in the last tick, oldest first, and how many octets of each
+    /// lane are there of the one that is not whole.
+    pub fn delivered(&self) -> &Deframer
+        ensures { result.now ≡ self.now.collecting.gathering }
+    {
+        self.collector.delivered()
+    }
+
+    /// The most entries that any lane held.
+    pub fn fullest(&self) -> u32
+        ensures { result ≡ fold max 0 (map (λ a. a.fullest) self.now.lanes) }
+    {
+        self.lanes.fullest()
+    }
+
+    /// Each lane, in ascending order.
+    pub fn lanes(&self) -> &[LanePair]
+        ensures { result.now ≡ self.now.lanes }
+    {
+        self.lanes.pairs()
+    }
+
+    /// The end of each lane's ring, in ascending lanes.
+    pub fn ends(&self) -> &[CellEnd]
+        ensures { result.now ≡ self.now.collecting.ends }
+    {
+        self.collector.ends()
     }
 }
 
@@ -217,6 +284,7 @@ fn clear_if(lanes: &mut Lanes, reset: bool)
         → HaveRunLanes lanes.new s (λ lane. record (runs lane) { handed = if reset then [] else (runs lane).handed }) }
     ensures at { (p : ParamsValue) (next : Option ℕ) → AreAt lanes.old p next
         → AreAt lanes.new p (if reset then None else next) }
+    ensures rings { KeepRings lanes.old lanes.new }
     ensures count { length lanes.new ≡ length lanes.old }
 {
     if reset {

@@ -1,16 +1,18 @@
 //! The receiver of a run.
-ghost use Rattle.std.specs.Prelude.{◌≡◌, ◌<◌, ◌≤◌, ◌+◌, ◌-◌, ◌*◌, ◌%◌, ◌^◌, ◌++◌, ◌∷◌, ◌||◌, [], List, None, Some, length, is_some, IsTrue, IfOk, if◌then◌else◌};
+ghost use Rattle.std.specs.Prelude.{◌≡◌, ◌<◌, ◌≤◌, ◌+◌, ◌-◌, ◌*◌, ◌%◌, ◌^◌, ◌++◌, ◌∷◌, ◌||◌, [], List, None, Some, false, length, is_some, IsTrue, IfOk, if◌then◌else◌};
 ghost use Rattle.link_params.specs.declared.fields.Params.{Params as ParamsValue};
 ghost use Rattle.link_params.specs.declared.fields.Timing.{Timing as TimingValue};
 ghost use Rattle.link_params.specs.declared.lane_report.LaneReport.{LaneReport as ReportValue};
 ghost use Rattle.link_params.specs.declared.alarms.Device.TheVariants.{Rx as RxDevice};
+ghost use Rattle.bring_up.specs.declared.stage.Decision.TheVariants as decision;
 ghost use Rattle.bring_up.specs.kept.Controls.{HasDecided};
+ghost use Rattle.bring_up.specs.Decisions.{is_running};
 ghost use Rattle.scenario.specs.Plans.{Plan, plan_of};
 ghost use Rattle.link_model.specs.Edges.{is_reset};
 ghost use Rattle.link_model.specs.Kinds.{kind_of, moment_of, run_of};
 ghost use Rattle.link_model.specs.Moments.{History};
 ghost use Rattle.link_model.specs.Run.{is_at};
-ghost use Rattle.link_model.specs.Hunts.{is_hunt};
+ghost use Rattle.link_model.specs.Hunts.{is_hunt, standing};
 ghost use Rattle.link_model.specs.Receives.{offset_at};
 ghost use Rattle.link_run.specs.kept.LaneRuns.{HaveRunLanes};
 ghost use Rattle.link_model.specs.kept.LaneRuns.{lane_stepped};
@@ -117,13 +119,21 @@ impl Receiver {
             → IsEnded result self.new plan (run_of plan t) }
     {
         if !decides {
-            self.hunts = false;
-            self.alarms.clear();
+            self.rest();
             return Decision::Stay;
         }
         let decision = self.decide(s, t, lanes);
         self.hunts = is_hunt(decision);
         decision
+    }
+
+    /// The end of a tick that is no release point: nothing is decided.
+    pub fn rest(&mut self)
+        ensures { (plan : Plan) (h : History) → HasToldTick self.old plan h
+            → (moment_of plan h).decides ≡ false → IsEnded decision.Stay self.new plan h }
+    {
+        self.hunts = false;
+        self.alarms.clear();
     }
 
     fn decide(&mut self, s: &Scenario, t: u32, lanes: &Lanes) -> Decision
@@ -150,6 +160,23 @@ impl Receiver {
         &self.alarms
     }
 
+    /// Whether the link runs, in a tick in which nothing is decided yet.
+    pub fn is_running(&self) -> bool
+        ensures { (plan : Plan) (h : History) → HasToldTick self.now plan h
+            → result ≡ is_running (standing plan h).stage }
+    {
+        is_run(self.control.stage())
+    }
+
+    /// Whether the link runs after the last tick.
+    pub fn is_run(&self) -> bool
+        ensures { (plan : Plan) (h : History)
+            → HasReceivedRun self.now plan (h ++ moment_of plan h ∷ [])
+            → result ≡ is_running (moment_of plan h).stage }
+    {
+        is_run(self.stage())
+    }
+
     /// The stage after the last tick.
     pub fn stage(&self) -> Stage
         ensures { (plan : Plan) (h : History)
@@ -157,6 +184,16 @@ impl Receiver {
             → result ≡ (moment_of plan h).stage }
     {
         self.control.stage()
+    }
+}
+
+// Whether the link runs at this stage.
+fn is_run(stage: Stage) -> bool
+    ensures { result ≡ is_running stage }
+{
+    match stage {
+        Stage::Run => true,
+        Stage::Hunt | Stage::Wait => false,
     }
 }
 

@@ -1,74 +1,72 @@
-//! The report of a run, row by row.
-ghost use Rattle.std.specs.Prelude.{◌≡◌, ◌≤◌, ◌<◌, ◌+◌, ◌*◌, ◌++◌, ◌∷◌, [], List, length, if◌then◌else◌, Some, IfOk, IsTrue, OnOk};
+//! The rows of a run, and what they count.
+ghost use Rattle.std.specs.Prelude.{◌≡◌, ◌<◌, ◌+◌, ◌*◌, ◌∷◌, [], false, length, if◌then◌else◌, Some, IfOk, IsTrue, get_or, is_ok, is_some};
+ghost use Rattle.link_params.specs.declared.fields.Params.{Params};
 ghost use Rattle.scenario.specs.declared.report_row.Row.TheVariants as row;
 ghost use Rattle.scenario.specs.Limits.{has_words};
 ghost use Rattle.scenario.specs.Plans.{Plan, plan_of, source_frame};
 ghost use Rattle.sample_map.specs.Frames.{words_of};
-ghost use Rattle.link_model.specs.Report.{Printed, bare, prints_all};
-ghost use Rattle.link_run.specs.kept.Printing.{HasPrinted, counted_mark};
+ghost use Rattle.link_model.specs.Report.{bare, prints_all, prints_frames};
+ghost use Rattle.link_run.specs.Rows.{HasWords, WasHanded};
+ghost use Rattle.link_run.specs.kept.Gathered.{no_frame};
+ghost use Rattle.link_run.specs.kept.Printing.{counted_mark, no_totals};
 
-use jesd_base::NoMemory;
+use crate::deframer::Deframer;
+use crate::rows::Rows;
+use jesd_base::{Failed, NoMemory};
 use link_params::{Alarm, Mark};
 use sample_map::{Layout, layout_laws};
-use scenario::{LineText, Print, Row, Scenario, Totals, source_frame};
+use scenario::{Print, Row, Scenario, Totals, source_frame};
 use std::alloc::Global;
 use std::marker::Model;
 
-/// The text of the rows so far, and the counts. Contracts see it as the text, the line that
-/// was made last, the room of a line, how many words a frame has, and the counts.
+/// What the rows of a run count so far, with room for the words and the octets of a frame.
+/// Contracts see it as its parameters, whether the first and the last row alone are handed on, and
+/// the counts.
 #[derive(Drop)]
 pub struct Report {
-    text: Vec<u8>,
-    line: LineText,
-    // Room for the words of a frame.
+    layout: Layout,
     words: Vec<u32>,
+    octets: Vec<u8>,
+    short: bool,
     totals: Totals,
 }
 
 impl Model for Report {
-    ghost use Rattle.std.specs.Prelude.{length};
+    ghost use Rattle.std.specs.Prelude.{◌≡◌, ◌*◌, None, length};
+    ghost use Rattle.link_params.specs.Laws.{broken_law};
     ghost use Rattle.link_run.specs.kept.Printing.{Printing};
 
     ghost Value = { Printing };
 
-    ghost view = { λ r. record {
-      text = r.text.items;
-      line = r.line.bytes;
-      room = r.line.room;
-      size = length r.words.items;
-      totals = r.totals;
-    } };
+    ghost view = { λ r. record { params = r.layout; short = r.short; totals = r.totals } };
+
+    ghost invariant = { λ r. (length r.words.items ≡ r.layout.m * r.layout.s)
+        × (length r.octets.items ≡ r.layout.l * r.layout.f)
+        × (broken_law r.layout ≡ None) };
 }
 
 impl Report {
-    /// A report without rows, for frames of this scenario; `NoMemory` where there is none for a
-    /// line.
+    /// Nothing was counted. All its memory is taken here; `NoMemory` where there is none.
     pub fn open(alloc: Global, s: &Scenario) -> Result<Report, NoMemory>
-        ensures begins { (plan : Plan) → plan_of s.now ≡ Some plan
-            → IfOk result (λ r. HasPrinted r plan []) }
-        ensures size { IfOk result (λ r. r.size ≡ s.now.shape.m * s.now.shape.s) }
-        ensures room { IfOk result (λ r. 128 + 9 * r.size ≤ r.room) }
-        ensures nothing { IfOk result
-            (λ r. r.totals ≡ record {
-              ticks = 0;
-              entered = 0;
-              delivered = 0;
-              ok = 0;
-              fixed =
-                  0;
-              bad = 0;
-              alarms = 0;
-              fullest = 0;
-            }) }
+        ensures { IfOk result (λ r. r ≡ record {
+          params = s.now.shape;
+          short = false;
+          totals = no_totals;
+        }) }
     {
+        // for what it ensures: the shape is legal
+        let _params = s.shape.params();
+        let size = (s.shape.lanes() * s.shape.frame_octets()) as usize;
         let count = s.shape.frame_words() as usize;
-        let Ok(words) = vec![in alloc; 0u32; count] else {
+        let (Ok(words), Ok(octets)) = (vec![in alloc; 0u32; count], vec![in alloc; 0u8; size])
+        else {
             return Err(NoMemory);
         };
         Ok(Report {
-            text: Vec::new(alloc),
-            line: LineText::open(alloc, 128 + 9 * count)?,
+            layout: Layout::new(&s.shape),
             words,
+            octets,
+            short: false,
             totals: Totals {
                 ticks: 0,
                 entered: 0,
@@ -82,83 +80,89 @@ impl Report {
         })
     }
 
-    /// A row with its words; `NoMemory` where the text cannot grow, as for each row below.
-    pub fn row(&mut self, s: &Scenario, row: &Row, words: &[u32]) -> Result<(), NoMemory>
-        requires room { 128 + 9 * length words.now ≤ self.old.room }
-        ensures printed { (plan : Plan) (rows : List Printed) → plan_of s.now ≡ Some plan
-            → HasPrinted self.old plan rows
-            → OnOk result (HasPrinted self.new plan (rows ++ (record { row = row.now; words = words.now }) ∷ [])) }
-        ensures counts { self.new.totals ≡ self.old.totals }
-        ensures room { self.old.room ≤ self.new.room }
-        ensures size { self.new.size ≡ self.old.size }
+    /// Whether the first and the last row alone are handed on.
+    pub fn set_short(&mut self, short: bool)
+        ensures { self.new ≡ record self.old { short = short } }
     {
-        self.line.line(row, words, s);
-        self.put()
+        self.short = short;
     }
 
-    // The line is put behind the text.
-    fn put(&mut self) -> Result<(), NoMemory>
-        ensures text { OnOk result (self.new.text ≡ self.old.text ++ self.old.line) }
-        ensures same { self.new ≡ record self.old { text = self.new.text } }
+    /// A row without words, between the first and the last one.
+    pub fn row<W: Rows>(&self, rows: &mut W, row: &Row) -> Result<(), Failed>
+        requires shape { (p : Params) → W.shape rows.old ≡ Some p → p ≡ self.now.params }
+        requires bare { HasWords self.now.params row.now [] }
+        ensures handed { WasHanded W W.Took W.shape W.faults rows.old rows.new (is_ok result)
+            (if self.now.short then [] else bare row.now ∷ []) }
     {
-        match self.text.extend_from_slice(self.line.bytes()) {
-            Ok(()) => Ok(()),
-            Err(_) => Err(NoMemory),
+        if self.short {
+            Ok(())
+        } else {
+            rows.row(row, &[])
         }
     }
 
     /// An alarm of tick `t`.
-    pub fn alarm(&mut self, s: &Scenario, t: u32, alarm: Alarm) -> Result<(), NoMemory>
+    pub fn alarm<W: Rows>(&mut self, rows: &mut W, t: u32, alarm: Alarm) -> Result<(), Failed>
         requires count { self.old.totals.alarms < 4294967295 }
-        requires room { 128 ≤ self.old.room }
-        ensures printed { (plan : Plan) (rows : List Printed) → plan_of s.now ≡ Some plan
-            → HasPrinted self.old plan rows
-            → OnOk result (HasPrinted self.new plan (rows ++ bare (row.Alarm t alarm) ∷ [])) }
-        ensures counts { self.new.totals ≡ record self.old.totals { alarms = self.old.totals.alarms + 1 } }
-        ensures room { self.old.room ≤ self.new.room }
-        ensures size { self.new.size ≡ self.old.size }
+        requires shape { (p : Params) → W.shape rows.old ≡ Some p → p ≡ self.old.params }
+        ensures handed { WasHanded W W.Took W.shape W.faults rows.old rows.new (is_ok result)
+            (if self.old.short then [] else bare (row.Alarm t alarm) ∷ []) }
+        ensures counts { self.new ≡ record self.old {
+          totals = record self.old.totals { alarms = self.old.totals.alarms + 1 };
+        } }
     {
         self.totals.alarms += 1;
-        self.row(s, &Row::Alarm(t, alarm), &[])
+        self.row(rows, &Row::Alarm(t, alarm))
     }
 
     /// The next source frame begins, at this octet time.
-    pub fn enter(&mut self, s: &Scenario, time: u32) -> Result<(), NoMemory>
+    pub fn enter<W: Rows>(&mut self, rows: &mut W, s: &Scenario, time: u32) -> Result<(), Failed>
         requires count { self.old.totals.entered < 4294967295 }
-        requires size { self.old.size ≡ s.now.shape.m * s.now.shape.s }
-        requires room { 128 + 9 * self.old.size ≤ self.old.room }
+        requires same { self.old.params ≡ s.now.shape }
+        requires link { IsTrue (is_some s.now.link) }
+        requires shape { (p : Params) → W.shape rows.old ≡ Some p → p ≡ self.old.params }
         requires some { IsTrue (has_words s.now.input) }
-        ensures printed { (plan : Plan) (rows : List Printed) → plan_of s.now ≡ Some plan
-            → HasPrinted self.old plan rows
-            → OnOk result (HasPrinted self.new plan (rows ++ (if prints_all plan.print then (record { row = row.Enter time; words = source_frame plan self.old.totals.entered }) ∷ [] else []))) }
-        ensures counts { self.new.totals ≡ record self.old.totals { entered = self.old.totals.entered + 1 } }
-        ensures room { self.old.room ≤ self.new.room }
-        ensures size { self.new.size ≡ self.old.size }
+        ensures handed { (plan : Plan) → plan_of s.now ≡ Some plan
+            → WasHanded W W.Took W.shape W.faults rows.old rows.new (is_ok result)
+            (if self.old.short then [] else (if prints_all plan.print
+            then (record {
+              row = row.Enter time;
+              words = source_frame plan self.old.totals.entered;
+            }) ∷ []
+            else [])) }
+        ensures counts { self.new ≡ record self.old {
+          totals = record self.old.totals { entered = self.old.totals.entered + 1 };
+        } }
     {
         let number = u64::from(self.totals.entered);
         self.totals.entered += 1;
-        match s.print {
-            Print::All => self.enter_row(s, time, number),
-            Print::None | Print::Frames => Ok(()),
+        if self.prints_entries(s) {
+            self.enter_row(rows, s, time, number)
+        } else {
+            Ok(())
         }
     }
 
     // The row of this source frame.
     #[inline(never)]
-    fn enter_row(&mut self, s: &Scenario, time: u32, number: u64) -> Result<(), NoMemory>
-        requires size { self.old.size ≡ s.now.shape.m * s.now.shape.s }
-        requires room { 128 + 9 * self.old.size ≤ self.old.room }
+    fn enter_row<W: Rows>(
+        &mut self,
+        rows: &mut W,
+        s: &Scenario,
+        time: u32,
+        number: u64,
+    ) -> Result<(), Failed>
+        requires same { self.old.params ≡ s.now.shape }
+        requires link { IsTrue (is_some s.now.link) }
+        requires shape { (p : Params) → W.shape rows.old ≡ Some p → p ≡ self.old.params }
         requires some { IsTrue (has_words s.now.input) }
-        ensures printed { (plan : Plan) (rows : List Printed) → plan_of s.now ≡ Some plan
-            → HasPrinted self.old plan rows
-            → OnOk result (HasPrinted self.new plan (rows ++ (record { row = row.Enter time; words = source_frame plan number }) ∷ [])) }
-        ensures counts { self.new.totals ≡ self.old.totals }
-        ensures room { self.old.room ≤ self.new.room }
-        ensures size { self.new.size ≡ self.old.size }
+        ensures handed { (plan : Plan) → plan_of s.now ≡ Some plan
+            → WasHanded W W.Took W.shape W.faults rows.old rows.new (is_ok result)
+            ((record { row = row.Enter time; words = source_frame plan number }) ∷ []) }
+        ensures same { self.new ≡ self.old }
     {
         source_frame(s, number, &mut self.words);
-        self.line.line(&Row::Enter(time), &self.words, s);
-        self.put()
+        rows.row(&Row::Enter(time), &self.words)
     }
 
     /// A frame with this mark is delivered.
@@ -176,55 +180,70 @@ impl Report {
         }
     }
 
-    /// The row of a frame, whose first octet left at this octet time.
-    pub fn frame(
+    /// The row of frame `i` of those that became whole, whose first octet left at this octet time.
+    pub fn frame<W: Rows>(
         &mut self,
-        s: &Scenario,
+        rows: &mut W,
         time: u32,
-        mark: Mark,
-        octets: &[u8],
-    ) -> Result<(), NoMemory>
-        requires size { self.old.size ≡ s.now.shape.m * s.now.shape.s }
-        requires octets { length octets.now ≡ s.now.shape.l * s.now.shape.f }
-        requires room { 128 + 9 * self.old.size ≤ self.old.room }
-        ensures printed { (plan : Plan) (rows : List Printed) → plan_of s.now ≡ Some plan
-            → HasPrinted self.old plan rows
-            → OnOk result (HasPrinted self.new plan (rows ++ (record { row = row.Frame time mark; words = words_of s.now.shape octets.now }) ∷ [])) }
-        ensures counts { self.new.totals ≡ self.old.totals }
-        ensures room { self.old.room ≤ self.new.room }
-        ensures size { self.new.size ≡ self.old.size }
+        frames: &Deframer,
+        i: usize,
+    ) -> Result<(), Failed>
+        requires same { frames.now.params ≡ self.old.params }
+        requires inside { i < length frames.now.frames }
+        requires shape { (p : Params) → W.shape rows.old ≡ Some p → p ≡ self.old.params }
+        ensures handed { WasHanded W W.Took W.shape W.faults rows.old rows.new (is_ok result)
+            ((record {
+              row = row.Frame time (get_or frames.now.frames i no_frame).mark;
+              words = words_of self.old.params (get_or frames.now.frames i no_frame).octets;
+            }) ∷ []) }
+        ensures same { self.new ≡ self.old }
     {
-        let _params = s.shape.params();
         layout_laws();
-        Layout::new(&s.shape).unmap(octets, &mut self.words);
-        self.line.line(&Row::Frame(time, mark), &self.words, s);
-        self.put()
+        frames.write_frame(i, &mut self.octets);
+        self.layout.unmap(&self.octets, &mut self.words);
+        rows.row(&Row::Frame(time, frames.mark(i)), &self.words)
     }
 
-    /// A tick is over; `fullest` is the most entries that any lane has held so far.
-    pub fn tick(&mut self, fullest: u32)
+    /// A tick is over.
+    pub fn tick(&mut self)
         requires { self.old.totals.ticks < 4294967295 }
         ensures { self.new
             ≡ record self.old {
-              totals =
-                  record self.old.totals { ticks = self.old.totals.ticks + 1; fullest = fullest };
+              totals = record self.old.totals { ticks = self.old.totals.ticks + 1 };
             } }
     {
         self.totals.ticks += 1;
-        self.totals.fullest = fullest;
     }
 
-    /// The counts so far.
-    pub fn totals(&self) -> Totals
-        ensures { result ≡ self.now.totals }
+    /// The counts so far; `fullest` is the most entries that any lane held.
+    pub fn totals(&self, fullest: u32) -> Totals
+        ensures { result ≡ record self.now.totals { fullest = fullest } }
     {
-        self.totals
+        Totals {
+            fullest,
+            ..self.totals
+        }
     }
 
-    /// The text of all rows.
-    pub fn into_text(self) -> Vec<u8>
-        ensures { result.items ≡ self.text }
+    // Whether frames that enter are handed on.
+    fn prints_entries(&self, s: &Scenario) -> bool
+        ensures { (plan : Plan) → plan_of s.now ≡ Some plan
+            → result ≡ (if self.now.short then false else prints_all plan.print) }
     {
-        self.text
+        match s.print {
+            Print::All => !self.short,
+            Print::None | Print::Frames => false,
+        }
+    }
+
+    /// Whether frames that leave are handed on.
+    pub fn prints_frames(&self, s: &Scenario) -> bool
+        ensures { (plan : Plan) → plan_of s.now ≡ Some plan
+            → result ≡ (if self.now.short then false else prints_frames plan.print) }
+    {
+        match s.print {
+            Print::Frames | Print::All => !self.short,
+            Print::None => false,
+        }
     }
 }

@@ -13,6 +13,4 @@ pub struct Ticked {
     pub place: Option<u32>,
     /// What the receiver decided.
     pub decision: Decision,
-    /// The most entries that any lane has held so far.
-    pub fullest: u32,
 }

@@ -151,8 +151,8 @@ fn reset_if(sending: &mut Sending, mode: Mode, reset: bool)
     }
 }
 
-// The place of a tick's data in the multiframe or extended multiblock.
-fn data_place(order: TxOrder) -> Option<u32>
+/// The place of a tick's data in the multiframe or extended multiblock.
+pub(crate) fn data_place(order: TxOrder) -> Option<u32>
     ensures { result ≡ data_place order }
 {
     match order {

@@ -1,103 +1,140 @@
 -- What both ends of a link and the lanes between them keep of a run.
--- Code: both ends, a list of lanes, and one frame.
-use Rattle.std.specs.Prelude.{◌≡◌, ◌<◌, ◌≤◌, ℕ, ◌+◌, ◌*◌, true, if◌then◌else◌, List, [], ◌∷◌, ◌++◌, All, length, Option, None}
+-- Code: both devices, a list of lanes, a segment of ticks, and one frame.
+use Rattle.std.specs.Prelude.{◌≡◌, ◌≤◌, ℕ, suc, ◌+◌, ◌-◌, ◌==◌, ◌&&◌, Bool, if◌then◌else◌, List, [], get_or, length, None}
+use Rattle.link_params.specs.declared.alarms.Alarm.{Alarm}
 use Rattle.link_params.specs.declared.alarms.Device.TheVariants.{Tx, Rx}
-use Rattle.link_params.specs.declared.cells.LaneCell.{LaneCell}
-use Rattle.link_params.specs.declared.orders.RxOrder.{RxOrder}
-use Rattle.link_params.specs.declared.orders.TxOrder.{TxOrder}
-use Rattle.link_params.specs.Laws.{is_b}
 use Rattle.link_params.specs.Links.{Link}
-use Rattle.link_params.specs.Numbers.{octets_per_tick}
+use Rattle.link_params.specs.Numbers.{period}
+use Rattle.bring_up.specs.declared.stage.Decision.{Decision}
+use Rattle.bring_up.specs.declared.stage.Decision.TheVariants as decision
+use Rattle.bring_up.specs.Decisions.{is_running}
 use Rattle.scenario.specs.Plans.{Plan}
 use Rattle.link_run.specs.declared.happened.Happened.{Happened}
-use Rattle.link_model.specs.kept.Before.{Columns, columns_now}
+use Rattle.link_run.specs.declared.ticked.Ticked.{Ticked}
 use Rattle.link_model.specs.Edges.{is_reset}
-use Rattle.link_model.specs.Kinds.{kind_of, moment_of}
+use Rattle.link_model.specs.Kinds.{kind_of, moment_of, run_of}
 use Rattle.link_model.specs.kept.LaneRuns.{lane_ready, lane_run, lane_stepped}
-use Rattle.link_model.specs.Moments.{History}
-use Rattle.link_run.specs.kept.Gathered.{Gathering, HasGathered, Whole, delivered_of}
+use Rattle.link_model.specs.Sends.{data_place}
+use Rattle.lane_threads.specs.declared.lane_pair.LanePair.{LanePair}
+use Rattle.lane_threads.specs.Segments.{no_step}
+use Rattle.link_run.specs.kept.Collected.{Collecting, HasCollected}
+use Rattle.link_run.specs.kept.Ends.{ArePairs, HaveCells}
 use Rattle.link_run.specs.kept.Happened.{are_past}
-use Rattle.lane_threads.specs.kept.LaneRuns.{Pair}
-use Rattle.link_run.specs.kept.LaneRuns.{AreAt, HaveRunLanes}
-use Rattle.link_run.specs.kept.ReceiverRuns.{HasReceivedRun, RxEnd}
-use Rattle.lane_threads.specs.kept.LaneEnds.{Follows, next_after}
+use Rattle.link_run.specs.kept.LaneRuns.{AreAt, HaveRings, HaveRunLanes}
+use Rattle.link_run.specs.kept.Segments.{HasPlanned, HasSteps, IsOneSegment, Planned, Planning, no_edges}
+use Rattle.link_run.specs.kept.ReceiverRuns.{HasToldTick}
 use Rattle.link_run.specs.kept.Sendings.{next_of}
-use Rattle.link_run.specs.kept.Transmitters.{HasSentRun, TxEnd}
+use Rattle.link_run.specs.kept.Transmitters.{HasSentTick}
 
--- the link, the place of the next event, both ends, the lanes, what they gave last, and the frame
--- that is gathered
+-- the link, both devices, the lanes, the segment that ran last with what the receiver decided at
+-- its end and whether the link runs after it, and what is collected of its cells
 pub record LinkView : Type 0 where
   pub link : Link
-  pub next : ℕ
-  pub tx : TxEnd
-  pub rx : RxEnd
-  pub lanes : List Pair
-  pub given : List (Option LaneCell)
-  pub gathering : Gathering
+  pub planning : Planning
+  pub lanes : List LanePair
+  pub segment : Planned
+  pub decision : Decision
+  pub released : Bool
+  pub collecting : Collecting
 
--- the columns of the session of the last tick
-abbrev pub columns_of : Plan → History → Columns
-columns_of s h = columns_now (kind_of s.link.params) s h
-
--- the ticks of this history are over
-pub record HasRun (now : LinkView) (s : Plan) (h : History) : Type 0 where
+-- the link and its segment have the sizes of the plan
+pub record IsSized (now : LinkView) (s : Plan) : Type 0 where
   pub same_link : now.link ≡ s.link
-  pub next : now.next ≡ are_past s (length h)
-  pub tx : HasSentRun now.tx s h
-  pub rx : HasReceivedRun now.rx s h
-  pub lanes : HaveRunLanes now.lanes s (λ lane. lane_run s h lane)
-  pub at : AreAt now.lanes s.link.params (next_of s.link.params now.tx.sending)
-  pub gathered : HasGathered now.gathering s.link.params (columns_of s h)
-  pub given : length now.given ≡ s.link.params.l
+  pub same_planning : now.planning.link ≡ s.link
+  pub room : period s.link.params ≤ now.segment.room
+  pub pairs : ArePairs now.lanes now.collecting.ends
 
--- the events of the tick after this history have happened
-pub record HasHappened (x : Happened) (old now : LinkView) (s : Plan) (h : History) : Type 0 where
-  pub tx_reset : x.tx_reset ≡ is_reset s Tx (length h)
-  pub rx_reset : x.rx_reset ≡ is_reset s Rx (length h)
-  pub next : now.next ≡ are_past s (length h + 1)
-  pub lanes : HaveRunLanes now.lanes s (λ lane. lane_ready s h lane)
-  pub at : AreAt now.lanes s.link.params
-      (if x.tx_reset then None else next_of s.link.params old.tx.sending)
-  pub same : now ≡ record old { next = now.next; lanes = now.lanes }
+-- the lanes have run the first t ticks, the devices stand behind them
+pub record HasRunLanes (now : LinkView) (s : Plan) (t : ℕ) : Type 0 where
+  pub sized : IsSized now s
+  pub planned : HasPlanned now.planning s t
+  pub lanes : HaveRunLanes now.lanes s (lane_run s (run_of s t))
+  pub rings : HaveRings now.lanes s t t
+  pub at_next : AreAt now.lanes s.link.params (next_of s.link.params now.planning.tx.sending)
 
--- the columns of the session to which that tick belongs
-abbrev pub columns_left : Plan → History → Columns
-columns_left s h = if (moment_of s h).told.hunt then [] else columns_of s h
+-- and all that they gave was collected
+pub record HasRun (now : LinkView) (s : Plan) (t : ℕ) : Type 0 where
+  pub ran : HasRunLanes now s t
+  pub collected : HasCollected now.collecting s t
+  pub cells : HaveCells now.collecting.ends s t 0
 
--- the lanes can send and take that tick: with this order, and the receiver's
-pub record CanStep (now : LinkView) (order : TxOrder) (told : RxOrder) (s : Plan)
-    (h : History) : Type 0 where
-  pub lanes : HaveRunLanes now.lanes s (λ lane. lane_ready s h lane)
-  pub next : Option ℕ
-  pub at_next : AreAt now.lanes s.link.params next
-  pub follows : Follows s.link.params next order
-  pub handed : now.tx.handed ≡ (moment_of s h).handed
-  pub small : is_b s.link.params.mode ≡ true → All (λ v. v < 256) now.tx.handed
-  pub order_is : order ≡ (moment_of s h).order
-  pub told_is : told ≡ (moment_of s h).told
-  pub gathered : HasGathered now.gathering s.link.params (columns_of s h)
+-- the events of tick t have happened
+pub record HasHappened (x : Happened) (old now : LinkView) (s : Plan) (t : ℕ) : Type 0 where
+  pub tx_reset : x.tx_reset ≡ is_reset s Tx t
+  pub rx_reset : x.rx_reset ≡ is_reset s Rx t
+  pub next : x.next ≡ are_past s (t + 1)
+  pub lanes : HaveRunLanes now.lanes s (lane_ready s (run_of s t))
+  pub rings : HaveRings now.lanes s t t
+  pub pairs : ArePairs now.lanes now.collecting.ends
+  pub at_next : AreAt now.lanes s.link.params
+      (if x.tx_reset then None else next_of s.link.params old.planning.tx.sending)
+  pub same : now ≡ record old { lanes = now.lanes }
 
--- and each lane has sent and taken it
-pub record HasStepped (order : TxOrder) (old now : LinkView) (s : Plan) (h : History) : Type 0 where
-  pub lanes : HaveRunLanes now.lanes s (λ lane. lane_stepped (kind_of s.link.params) s h lane)
-  pub at : AreAt now.lanes s.link.params (next_after s.link.params order)
-  pub gathered : HasGathered now.gathering s.link.params (columns_left s h)
-  pub same : now ≡ record old { lanes = now.lanes; gathering = now.gathering }
+-- ticks t to t + m were planned, and both ends stand at the last one
+pub record WasPlanned (now : Planned) (after : Planning) (s : Plan) (t m : ℕ) : Type 0 where
+  pub has_steps : HasSteps now s t (suc m)
+  pub one : IsOneSegment now.gives s t m
+  pub reset : now.rx_reset ≡ is_reset s Rx t
+  pub decides_is : now.decides ≡ (moment_of s (run_of s (t + m))).decides
+  pub next_is : after.next ≡ are_past s (t + suc m)
+  pub sent : HasSentTick after.tx s (run_of s (t + m))
+  pub told : HasToldTick after.rx s (run_of s (t + m))
 
--- the lanes can give what they give in it
-pub record CanGive (now : LinkView) (s : Plan) (h : History) : Type 0 where
-  pub lanes : HaveRunLanes now.lanes s (λ lane. lane_stepped (kind_of s.link.params) s h lane)
-  pub gathered : HasGathered now.gathering s.link.params (columns_left s h)
-  pub rx : HasReceivedRun now.rx s (h ++ moment_of s h ∷ [])
-  pub given : length now.given ≡ s.link.params.l
+-- the lanes have sent and taken ticks t to t + m
+pub record HasCarriedOn (now : LinkView) (s : Plan) (t m : ℕ) : Type 0 where
+  pub sized : IsSized now s
+  pub planned : WasPlanned now.segment now.planning s t m
+  pub lanes : HaveRunLanes now.lanes s (lane_stepped (kind_of s.link.params) s (run_of s (t + m)))
+  pub rings : HaveRings now.lanes s (t + m) (t + suc m)
+  pub at_next : AreAt now.lanes s.link.params (next_of s.link.params now.planning.tx.sending)
 
--- and each lane has given what it gives in it
-pub record HasGiven (now : LinkView) (s : Plan) (h : History) : Type 0 where
-  pub lanes : HaveRunLanes now.lanes s (λ lane. lane_run s (h ++ moment_of s h ∷ []) lane)
-  pub gathered : HasGathered now.gathering s.link.params (columns_of s (h ++ moment_of s h ∷ []))
-  pub delivered : (moment_of s h).delivered ≡ delivered_of s.link.params
-      (octets_per_tick s.link.params * (length h + 1)) now.gathering.frames now.gathering.at
-  pub octets : All (λ (f : Whole). length f.octets ≡ s.link.params.l * s.link.params.f)
-      now.gathering.frames
-  pub begun : now.gathering.at ≤ 256
-  pub given : length now.given ≡ s.link.params.l
+-- the last of them has ended: the receiver has decided, and the lanes gave where the link runs
+pub record HasEnded (now : LinkView) (s : Plan) (t m : ℕ) : Type 0 where
+  pub planned : HasPlanned now.planning s (t + suc m)
+  pub lanes : HaveRunLanes now.lanes s (lane_run s (run_of s (t + suc m)))
+  pub rings : HaveRings now.lanes s (t + suc m) (t + suc m)
+  pub pairs : ArePairs now.lanes now.collecting.ends
+  pub at_next : AreAt now.lanes s.link.params (next_of s.link.params now.planning.tx.sending)
+  pub decision_is : now.decision ≡ (moment_of s (run_of s (t + m))).decided.decision
+  pub alarms_are : now.planning.rx.alarms ≡ (moment_of s (run_of s (t + m))).decided.alarms
+  pub released_is : now.released ≡ is_running (moment_of s (run_of s (t + m))).stage
+
+-- ticks t to t + m are over, and of them the first i were collected
+pub record HasSegment (now : LinkView) (s : Plan) (t m i : ℕ) : Type 0 where
+  pub ran : HasRunLanes now s (t + suc m)
+  pub within : i ≤ suc m
+  pub has_steps : HasSteps now.segment s t (suc m)
+  pub one : IsOneSegment now.segment.gives s t m
+  pub reset : now.segment.rx_reset ≡ is_reset s Rx t
+  pub decision_is : now.decision ≡ (moment_of s (run_of s (t + m))).decided.decision
+  pub alarms_are : now.planning.rx.alarms ≡ (moment_of s (run_of s (t + m))).decided.alarms
+  pub released_is : now.released ≡ is_running (moment_of s (run_of s (t + m))).stage
+  pub collected : HasCollected now.collecting s (t + i)
+  pub cells : HaveCells now.collecting.ends s (t + i) (suc m - i)
+
+-- whether the receiver was reset in tick i of the segment, whether the link runs after it, and
+-- what the receiver decided in it
+abbrev pub reset_in : LinkView → ℕ → Bool
+reset_in now i = (i == 0) && now.segment.rx_reset
+
+abbrev pub runs_in : LinkView → ℕ → Bool
+runs_in now i =
+    if i + 1 == length now.segment.steps then now.released else now.segment.gives
+
+abbrev pub decision_in : LinkView → ℕ → Decision
+decision_in now i =
+    if i + 1 == length now.segment.steps then now.decision else decision.Stay
+
+-- what is seen of it
+abbrev pub seen_in : LinkView → ℕ → Ticked
+seen_in now i = record {
+  rx_reset = reset_in now i;
+  tx_off = (get_or now.segment.edges i no_edges).tx;
+  rx_off = (get_or now.segment.edges i no_edges).rx;
+  place = data_place (get_or now.segment.steps i no_step).tx;
+  decision = decision_in now i;
+}
+
+-- the alarms of the decision in tick i of the segment: only in its last tick there are any
+abbrev pub alarms_in : LinkView → ℕ → List Alarm
+alarms_in now i = if i + 1 == length now.segment.steps then now.planning.rx.alarms else []

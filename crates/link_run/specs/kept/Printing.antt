@@ -1,25 +1,30 @@
--- What a report keeps of its rows.
--- Code: their text, and their counts.
-use Rattle.std.specs.Prelude.{◌≡◌, ◌≤◌, ℕ, ◌+◌, ◌*◌, List}
+-- What is kept of the rows of a run.
+-- Code: their counts.
+use Rattle.std.specs.Prelude.{◌+◌, Bool}
 use Rattle.link_params.specs.declared.cells.Mark.{Mark}
+use Rattle.link_params.specs.declared.fields.Params.{Params}
 use Rattle.scenario.specs.declared.report_row.Totals.{Totals}
-use Rattle.scenario.specs.Plans.{Plan}
-use Rattle.link_model.specs.Report.{Printed, is_bad, is_fixed, is_ok, lines}
+use Rattle.link_model.specs.Report.{is_bad, is_fixed, is_ok}
 use Rattle.link_params.specs.Config.{one_if}
 
--- the text, the line that was made last, the room that there is for a line, how many words a frame
--- has, and the counts
+-- the parameters of the frames, whether the first and the last row alone are handed on, and the
+-- counts
 pub record Printing : Type 0 where
-  pub text : List ℕ
-  pub line : List ℕ
-  pub room : ℕ
-  pub size : ℕ
+  pub params : Params
+  pub short : Bool
   pub totals : Totals
 
--- the text is that of these rows, and a line of each row of this plan has room
-pub record HasPrinted (now : Printing) (s : Plan) (rows : List Printed) : Type 0 where
-  pub lines_of_rows : now.text ≡ lines s rows
-  pub room : 128 + 9 * (s.link.params.m * s.link.params.s) ≤ now.room
+abbrev pub no_totals : Totals
+no_totals = record {
+  ticks = 0;
+  entered = 0;
+  delivered = 0;
+  ok = 0;
+  fixed = 0;
+  bad = 0;
+  alarms = 0;
+  fullest = 0;
+}
 
 -- the counts with a frame of this mark more
 abbrev pub counted_mark : Totals → Mark → Totals

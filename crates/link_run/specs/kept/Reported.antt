@@ -1,7 +1,6 @@
 -- What is reported of a tick.
--- Code: the text of the rows so far, and their counts.
-use Rattle.std.specs.Prelude.{◌≡◌, ◌≤◌, ℕ, ◌+◌, ◌*◌, List, [], ◌∷◌, ◌++◌, length, fold, max}
-use Rattle.std.specs.List.{flat_map}
+-- Code: the counts of the rows so far.
+use Rattle.std.specs.Prelude.{◌≡◌, ◌≤◌, ℕ, ◌+◌, ◌*◌, Bool, if◌then◌else◌, List, [], ◌∷◌, length}
 use Rattle.link_params.specs.declared.alarms.Alarm.{Alarm}
 use Rattle.link_params.specs.declared.alarms.Device.TheVariants.{Tx, Rx}
 use Rattle.link_params.specs.Numbers.{octets_per_tick}
@@ -15,16 +14,19 @@ use Rattle.link_model.specs.Moments.{History}
 use Rattle.link_model.specs.Report.{Printed, bare, rows_from, totals}
 use Rattle.link_model.specs.Sends.{data_place}
 use Rattle.link_run.specs.kept.Gathered.{Whole, delivered_of}
-use Rattle.link_run.specs.kept.Printing.{HasPrinted, Printing}
+use Rattle.link_run.specs.kept.Printing.{Printing}
 
 -- the rows of these ticks, without the counts
 abbrev pub rows_so_far : Plan → History → List Printed
 rows_so_far s h = bare row.Link ∷ bare (row.Hunt 0) ∷ rows_from s 0 0 h
 
--- the rows of these ticks stand in the report, and its counts are theirs
+-- those that were handed on; short: the first one alone
+abbrev pub handed_so_far : Bool → Plan → History → List Printed
+handed_so_far short s h = if short then bare row.Link ∷ [] else rows_so_far s h
+
+-- the counts are those of these ticks, but for the entries that lanes held
 pub record HasReported (now : Printing) (s : Plan) (h : History) : Type 0 where
-  pub printed : HasPrinted now s (rows_so_far s h)
-  pub counts : now.totals ≡ totals s h
+  pub counts : now.totals ≡ record (totals s h) { fullest = 0 }
 
 -- what was seen of the tick after this history; alarms: those of the decision, frames: those that
 -- left, begun: how many octets of each lane came behind the last of them
@@ -38,7 +40,6 @@ pub record IsSeen (x : Ticked) (alarms : List Alarm) (frames : List Whole) (begu
   pub alarms_are : alarms ≡ (moment_of s h).decided.alarms
   pub delivered_is : (moment_of s h).delivered ≡ delivered_of s.link.params
       (octets_per_tick s.link.params * (length h + 1)) frames begun
-  pub fullest : x.fullest ≡ fold max 0 (flat_map (λ m. m.held) (h ++ moment_of s h ∷ []))
 
 -- at most n frames were counted
 pub record AreFewFrames (now : Totals) (n : ℕ) : Type 0 where

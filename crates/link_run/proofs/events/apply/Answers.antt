@@ -1,4 +1,5 @@
 use Rattle.link_run.proofs.EventLemmas.{delayed, died, reset-passes}
+use Rattle.link_run.proofs.SameLanes.{keep-none}
 use Rattle.link_run.proofs.events.apply.Goals as goal
 
 pub returns-in-Reset-clause-goes_on : goal.returns-in-Reset-clause-goes_on
@@ -14,3 +15,6 @@ pub returns-in-Dead-clause-goes_on : goal.returns-in-Dead-clause-goes_on
 returns-in-Dead-clause-goes_on c s runs run =
     died c.set_dead.new.self s runs c.in-Dead.lane c.in-Dead.on c.args.what c.in-Dead.is
     (c.set_dead.ensures.goes_on s runs run)
+
+pub returns-in-Reset-clause-rings : goal.returns-in-Reset-clause-rings
+returns-in-Reset-clause-rings c = keep-none c.args.lanes.now

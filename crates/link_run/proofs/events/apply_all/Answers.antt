@@ -29,7 +29,7 @@ loop-event-preserved c =
     let d : Event = record { tick = 0; what = Reset Tx } in
     applied-more c.args.lanes.now c.loop-event.lanes c.apply.new.lanes c.args.events.now
     c.loop-event.event-index d c.loop-event-test.true
-    c.apply.ensures.goes_on c.apply.ensures.at c.apply.ensures.count c.loop-event.invariant
+    c.apply.ensures.goes_on c.apply.ensures.at c.apply.ensures.rings c.apply.ensures.count c.loop-event.invariant
 
 pub returns-clause-goes_on : goal.returns-clause-goes_on
 returns-clause-goes_on c s runs run =

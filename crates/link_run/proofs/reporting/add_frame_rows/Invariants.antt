@@ -1,17 +1,13 @@
-use Rattle.std.proofs.Common.{◌≡◌, ◌≤◌, ◌+◌, ◌*◌, ◌++◌, List, Some}
-use Rattle.scenario.specs.Plans.{Plan, plan_of}
-use Rattle.link_run.specs.kept.Printing.{HasPrinted}
-use Rattle.link_model.specs.Report.{Printed}
+use Rattle.std.proofs.Common.{◌≡◌, ◌≤◌, ◌+◌, ◌*◌, true}
+use Rattle.link_run.specs.Rows.{WasHanded}
 use Rattle.link_run.proofs.TickRows.{leaving_rows}
 use Rattle.link_run.proofs.reporting.add_frame_rows.Given as goal
 
-abbrev pub invariant-loop-frame : goal.invariant-loop-frame
-invariant-loop-frame l =
-    (l.next ≡ l.end + l.frame-index * l.size)
-    × (l.report.totals ≡ l.fn.report.totals)
-    × (l.fn.report.room ≤ l.report.room)
-    × (l.report.size ≡ l.fn.report.size)
-    × ((plan : Plan) → (rows : List Printed) → plan_of l.s ≡ Some plan
-    → HasPrinted l.fn.report plan rows
-    → HasPrinted l.report plan (rows ++ leaving_rows l.s.shape l.end l.frames l.begun
-    l.frame-index))
+abbrev pub invariant-loop-i : goal.invariant-loop-i
+invariant-loop-i g l = record {
+  within : l.i ≤ l.i-end;
+  next : l.next ≡ l.end + l.i * l.size;
+  same : l.report ≡ l.fn.report;
+  handed : WasHanded g.row.W.Denot g.W.Rows.Took g.W.Rows.shape g.W.Rows.faults l.fn.rows l.rows
+      true (leaving_rows l.fn.report.params l.end l.frames.frames l.frames.at l.i);
+}

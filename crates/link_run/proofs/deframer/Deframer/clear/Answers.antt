@@ -1,9 +1,7 @@
-use Rattle.std.proofs.Common.{ap, ◌∙◌}
+use Rattle.std.proofs.Common.{ap, refl, ◌∙◌}
 use Rattle.link_run.proofs.Gathering.{gathered-nothing}
 use Rattle.link_run.proofs.deframer.Deframer.clear.Goals as goal
 
-pub returns : goal.returns
-returns c = λ p columns had.
-    let is = c.begin.ensures in
-    gathered-nothing _ p (ap (λ v. v.params) is ∙ had.same_params) (ap (λ v. v.at) is)
-    (ap (λ v. v.mark) is)
+pub returns-clause-begins : goal.returns-clause-begins
+returns-clause-begins c = λ p columns had.
+    gathered-nothing _ p (ap (λ v. v.params) c.self.view_is ∙ had.same_params) refl refl

@@ -1,16 +1,21 @@
-use Rattle.std.proofs.Common.{◌≤◌, ◌+◌, ◌*◌, ◌++◌, ◌∷◌, [], ◌∙◌, List, ap, arith, subst, sym, vec_len}
-use Rattle.std.specs.Prelude.{All, if◌then◌else◌}
+use Rattle.std.proofs.Common.{◌≡◌, ◌≤◌, ◌+◌, ◌*◌, ◌++◌, ◌∷◌, [], ◌∙◌, List, ap, arith, rules, subst, sym, vec_len}
+use Rattle.std.specs.Prelude.{All}
 use Rattle.scenario.specs.declared.plan.Flip.{Flip}
 use Rattle.link_params.specs.Links.{Link}
 use Rattle.link_params.specs.Numbers.{width}
-use Rattle.lane_threads.specs.kept.LaneRuns.{Pair}
-use Rattle.link_run.proofs.LaneLemmas.{AreOpened, IsOpened, fits-within, opened-more, opened-none}
+use Rattle.lane_threads.specs.declared.cell_end.CellEnd.{CellEnd}
+use Rattle.lane_threads.specs.declared.lane_pair.LanePair.{LanePair}
+use Rattle.link_run.proofs.Carrying.{cells-none, ring-none}
+use Rattle.link_run.proofs.LaneLemmas.{AreOpened, ArePaired, IsOpened, IsOpenedEnd, fits-within, opened-more, opened-none, paired-more, paired-none}
 use Rattle.link_run.proofs.lanes.Lanes.open.Goals as goal
 
 pub loop-lane-init : goal.loop-lane-init
 loop-lane-init c = record {
   opened = opened-none (IsOpened c.args.link.now c.args.flips.now c.args.ticks)
       c.new-pairs.result.items c.new-pairs.ensures.items;
+  ends = opened-none IsOpenedEnd c.new-ends.result.items c.new-ends.ensures.items;
+  paired = paired-none c.new-pairs.result.items c.new-ends.result.items c.new-pairs.ensures.items
+      c.new-ends.ensures.items;
   long = c.new-pairs.ensures.len;
 }
 
@@ -18,26 +23,46 @@ pub loop-lane-preserved : goal.loop-lane-preserved
 loop-lane-preserved c =
     let link = c.args.link.now in
     let flips = c.args.flips.now in
+    let lane = c.loop-lane.lane in
+    let lanes = c.loop-lane.pairs.items in
+    let ends = c.loop-lane.ends.items in
+    let x : LanePair = c.in_ok-pair.pair in
+    let y : CellEnd = c.in_ok-pair.end in
+    let fresh = c.in_ok-pair.ensures.new in
     let within = fits-within link.params c.args.ticks flips c.requires.flips in
-    let ok = c.if-is_err.ensures.negation in
-    let items = c.push.ensures.items
-    ∙ ap (λ b. if b then c.loop-lane.pairs.items ++ c.in_ok-pair.pair
-    ∷ [] else c.loop-lane.pairs.items) ok in
-    let longer = c.push.ensures.len
-    ∙ ap (λ b. if b then vec_len c.loop-lane.pairs + 1 else vec_len c.loop-lane.pairs) ok in
+    let items : c.push.new.self.items ≡ lanes ++ x ∷ [] = search rules in
+    let items_too : c.push-else-is_err.new.self.items ≡ ends ++ y ∷ [] = search rules in
+    let longer : vec_len c.push.new.self ≡ vec_len c.loop-lane.pairs + 1 = search rules in
+    let opened : IsOpened link flips c.args.ticks lane x = record {
+      begins = λ s same_link same_flips same_ticks. c.in_ok-pair.ensures.begins s same_link
+          (c.in_ok-line.ensures.begins s lane same_link
+          (c.in_ok-inverted_bits.ensures.inverted s (width link.params * s.ticks) same_flips
+          (subst (λ t. All (λ (f : Flip). f.first + f.count ≤ width link.params * t) flips)
+          (sym same_ticks) within)));
+      same = c.in_ok-pair.ensures.next.0;
+      next = c.in_ok-pair.ensures.next.1;
+      fullest = fresh.0;
+      room = fresh.1;
+      cells = fresh.2;
+    } in
+    let nothing : IsOpenedEnd lane y = record {
+      received_none = c.in_ok-pair.ensures.end.0;
+      known_none = c.in_ok-pair.ensures.end.1;
+    } in
     record {
       opened =
-          subst (λ (l : List Pair). AreOpened (IsOpened link flips c.args.ticks) l
-          (c.loop-lane.lane + 1)) (sym items)
-          (opened-more (IsOpened link flips c.args.ticks) c.loop-lane.pairs.items c.loop-lane.lane
-          c.in_ok-pair.pair (record {
-            begins = λ s same_link same_flips same_ticks. c.in_ok-pair.ensures.begins s same_link
-                (c.in_ok-inverted.ensures.inverted s (width link.params * s.ticks) same_flips
-                (subst (λ t. All (λ (f : Flip). f.first + f.count ≤ width link.params * t) flips)
-                (sym same_ticks) within));
-            same = c.in_ok-pair.ensures.next.0;
-            next = c.in_ok-pair.ensures.next.1;
-          }) c.loop-lane.invariant.opened);
+          subst (λ (l : List LanePair). AreOpened (IsOpened link flips c.args.ticks) l (lane + 1))
+          (sym items)
+          (opened-more (IsOpened link flips c.args.ticks) lanes lane x opened
+          c.loop-lane.invariant.opened);
+      ends = subst (λ (l : List CellEnd). AreOpened IsOpenedEnd l (lane + 1)) (sym items_too)
+          (opened-more IsOpenedEnd ends lane y nothing c.loop-lane.invariant.ends);
+      paired =
+          subst (λ (l : List LanePair). ArePaired l c.push-else-is_err.new.self.items (lane + 1))
+          (sym items)
+          (subst (λ (l : List CellEnd). ArePaired (lanes ++ x ∷ []) l (lane + 1)) (sym items_too)
+          (paired-more lanes ends lane x y c.in_ok-pair.ensures.pair
+          c.loop-lane.invariant.paired));
       long = longer ∙ ap (λ n. n + 1) c.loop-lane.invariant.long;
     }
 
@@ -54,10 +79,31 @@ returns-clause-begins c s same_link same_flips same_ticks =
     let lanes = c.lanes-lane-end.ensures.value in
     let own = ap (λ k. k.l) c.shape.ensures.same in
     let same = ap (λ (k : Link). k.params.l) same_link in (
-      omega arith,
-      λ lane d below. (c.loop-lane.invariant.opened.each lane d (omega arith)).begins s
-          same_link same_flips same_ticks,
+      (
+        omega arith,
+        λ lane d below. (c.loop-lane.invariant.opened.each lane d (omega arith)).begins s
+            same_link same_flips same_ticks,
+      ),
+      λ lane d below.
+          let one = c.loop-lane.invariant.opened.each lane d (omega arith) in
+          ring-none _ s lane c.args.ticks same_ticks one.fullest one.room one.cells,
     )
+
+pub returns-clause-ends : goal.returns-clause-ends
+returns-clause-ends c s lane e below =
+    let count = c.loop-lane.invariant.ends.count in
+    let one = c.loop-lane.invariant.ends.each lane e (omega arith) in
+    cells-none _ s lane one.received_none one.known_none
+
+pub returns-clause-pairs : goal.returns-clause-pairs
+returns-clause-pairs c =
+    let all = c.loop-lane.invariant.paired in
+    let lane_count = all.lane_count in
+    let end_count = all.end_count in
+    record {
+      count = end_count ∙ sym lane_count;
+      each = λ lane d e below. all.each lane d e (omega arith);
+    }
 
 pub returns-clause-at : goal.returns-clause-at
 returns-clause-at c lane d below =

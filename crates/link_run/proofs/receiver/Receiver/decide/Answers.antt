@@ -9,7 +9,7 @@ use Rattle.scenario.specs.Plans.{Plan, numbers_from}
 use Rattle.link_model.specs.Moments.{History}
 use Rattle.link_model.specs.Kinds.{kind_of, moment_of, run_of}
 use Rattle.link_model.specs.kept.LaneRuns.{lane_stepped}
-use Rattle.lane_threads.specs.kept.LaneRuns.{Pair}
+use Rattle.lane_threads.specs.declared.lane_pair.LanePair.{LanePair}
 use Rattle.link_run.specs.kept.LaneRuns.{HaveRunLanes}
 use Rattle.link_model.specs.kept.LaneRuns.{LaneRun}
 use Rattle.link_run.specs.kept.ReceiverRuns.{HasToldTick, decisions_left}
@@ -23,7 +23,7 @@ use Rattle.link_run.proofs.RunFacts.{reports-lanes}
 use Rattle.link_run.proofs.receiver.Receiver.decide.Goals as goal
 
 -- the reports that were written are those of the tick
-written : (s : Plan) (t : ℕ) (lanes : List Pair) (new : List LaneReport)
+written : (s : Plan) (t : ℕ) (lanes : List LanePair) (new : List LaneReport)
     → HaveRunLanes lanes s (lane_stepped (kind_of s.link.params) s (run_of s t))
     → ((q : Plan) (runs : ℕ → LaneRun) → HaveRunLanes lanes q runs
     → new ≡ map (λ lane. (kind_of q.link.params).report q.link.params q.link.timing lane

@@ -1,0 +1,399 @@
+-- Both ends of a link and the lanes between them, through a segment.
+use Rattle.std.proofs.Common.{◌≡◌, ◌∙◌, ◌<◌, ◌≤◌, ◌+◌, ◌-◌, ℕ, suc, true, false, List, ◌++◌, length, get_or, if◌then◌else◌, Option, None, arith, sym, ap, subst, append-nil}
+use Rattle.rtrb.specs.Ring.{IsPair, sent}
+use Rattle.link_params.specs.declared.cells.LaneCell.{LaneCell}
+use Rattle.link_params.specs.declared.fields.Params.{Params}
+use Rattle.link_params.specs.declared.alarms.Device.TheVariants.{Tx, Rx}
+use Rattle.link_params.specs.Lanes.{LaneKind}
+use Rattle.link_params.specs.Links.{Link}
+use Rattle.link_params.specs.Numbers.{period}
+use Rattle.bring_up.specs.Decisions.{is_running}
+use Rattle.scenario.specs.Plans.{Plan}
+use Rattle.lane_threads.specs.declared.cell_end.CellEnd.{CellEnd}
+use Rattle.lane_threads.specs.declared.lane_pair.LanePair.{LanePair}
+use Rattle.lane_threads.specs.kept.LaneRuns.{HasRunLane}
+use Rattle.link_model.proofs.LaneHistory.{has-hunt-run, lane-run-none}
+use Rattle.link_model.specs.Edges.{is_reset}
+use Rattle.link_model.specs.Kinds.{kind_of, moment_of, run_of}
+use Rattle.link_model.specs.kept.LaneRuns.{LaneRun, lane_ready, lane_run, lane_stepped, no_run}
+use Rattle.link_model.specs.Run.{run}
+use Rattle.link_run.proofs.Carrying.{few-cells}
+use Rattle.link_run.proofs.Collecting.{cells-last, cells-still, running}
+use Rattle.link_run.proofs.GiveFacts.{lane-still}
+use Rattle.link_run.proofs.LaneStates.{have-same}
+use Rattle.link_run.proofs.Rooms.{IsGood, stepped-entry}
+use Rattle.link_run.specs.declared.happened.Happened.{Happened}
+use Rattle.link_run.specs.Given.{cells_in}
+use Rattle.link_run.specs.kept.Collected.{Collecting, HasCollected, IsLegalLink}
+use Rattle.link_run.specs.kept.Ends.{ArePairs, HaveCells}
+use Rattle.link_run.specs.kept.Happened.{are_past}
+use Rattle.link_run.specs.kept.LaneRuns.{AreAt, AreOnRings, AreSameLanes, HaveRings, HaveRunLanes, KeepRings}
+use Rattle.link_run.specs.kept.LinkStates.{HasCarriedOn, HasEnded, HasHappened, HasRun, HasSegment, IsSized, LinkView, WasPlanned}
+use Rattle.link_run.specs.kept.ReceiverRuns.{IsEnded}
+use Rattle.link_run.specs.kept.Segments.{CanGive, FollowOn, HasPlanned, IsCarried, IsPlanned, Planned, Planning, StandAt}
+use Rattle.link_run.specs.kept.Sendings.{next_of}
+use Rattle.link_run.specs.kept.Transmitters.{HasSentRun}
+
+-- ---- lanes and ends that stay pairs
+
+pub pairs-kept : (old now : List LanePair) (ends : List CellEnd) → KeepRings old now
+    → ArePairs old ends → ArePairs now ends
+pairs-kept old now ends h pairs =
+    let long = h.count in
+    record {
+      count = pairs.count ∙ sym h.count;
+      each = λ lane d e below.
+          subst (λ r. IsPair r (get_or ends lane e).ring) (sym (h.each lane d (omega arith)).ring)
+          (pairs.each lane d e (omega arith));
+    }
+
+pub keeps-same : (old now : List LanePair) → AreSameLanes old now → KeepRings old now
+keeps-same old now h = record {
+  count = h.count;
+  each = λ lane d below. let a = h.each lane d below in
+      record { fullest = a.fullest; room = a.room; ring = a.ring };
+}
+
+pub pairs-on : (old now : List LanePair) (ends : List CellEnd) → AreOnRings old now
+    → ArePairs old ends → ArePairs now ends
+pairs-on old now ends h pairs =
+    let long = h.count in
+    record {
+      count = pairs.count ∙ sym h.count;
+      each = λ lane d e below.
+          let r = (h.each lane d (omega arith)).0 in
+          let pair = pairs.each lane d e (omega arith) in
+          (pair.0 ∙ sym r.0, pair.1 ∙ sym r.1, pair.2 ∙ sym r.2, pair.3 ∙ sym r.3);
+    }
+
+-- ---- lanes that are the same but for their octets
+
+pub same-runs : (old now : List LanePair) (s : Plan) (runs : ℕ → LaneRun) → AreSameLanes old now
+    → HaveRunLanes old s runs → HaveRunLanes now s runs
+same-runs old now s runs h ran = (
+  h.count ∙ ran.0,
+  λ lane d below.
+      let count = ran.0 in
+      subst (λ x. HasRunLane x s lane (runs lane)) (sym (h.each lane d (omega arith)).lane)
+      (ran.1 lane d below),
+)
+
+pub same-rings : (old now : List LanePair) (s : Plan) (given held : ℕ) → AreSameLanes old now
+    → HaveRings old s given held → HaveRings now s given held
+same-rings old now s given held h rings lane d below =
+    let long = h.count in
+    let a = h.each lane d (omega arith) in
+    let r = rings lane d (omega arith) in
+    record {
+      cells = ap sent a.ring ∙ r.cells;
+      count = rw (a.room, a.ring) r.count;
+      most = a.fullest ∙ r.most;
+    }
+
+pub same-at : (old now : List LanePair) (p : Params) (next : Option ℕ) → AreSameLanes old now
+    → AreAt old p next → AreAt now p next
+same-at old now p next h at lane d below =
+    let long = h.count in
+    rw (h.each lane d (omega arith)).lane (at lane d (omega arith))
+
+-- ---- the segment is carried
+
+pub is-carried : (old now : List LanePair) (g : Planned) (after : Planning) (s : Plan) (t m : ℕ)
+    (first : Option ℕ) → IsLegalLink s
+    → HaveRunLanes old s (lane_ready s (run_of s t)) → HaveRings old s t t
+    → AreAt old s.link.params first → AreSameLanes old now
+    → IsPlanned g after now s t m → length g.steps ≡ suc m
+    → FollowOn g.steps s.link.params first (next_of s.link.params after.tx.sending)
+    (length g.steps)
+    → IsCarried now g s t m first (next_of s.link.params after.tx.sending)
+is-carried old now g after s t m first legal ran rings at same planned count follows = record {
+  laws = legal.laws;
+  timing = legal.timing;
+  runs = same-runs old now s (lane_ready s (run_of s t)) same ran;
+  rings = same-rings old now s t t same rings;
+  at_first = same-at old now s.link.params first same at;
+  has_steps = planned.has_steps;
+  octets = planned.octets;
+  one = planned.one;
+  follows = subst (FollowOn g.steps s.link.params first (next_of s.link.params after.tx.sending))
+      count follows;
+}
+
+pub was-planned : (g : Planned) (after : Planning) (lanes : List LanePair) (s : Plan) (t m : ℕ)
+    → IsPlanned g after lanes s t m → WasPlanned g after s t m
+was-planned g after lanes s t m h = record {
+  has_steps = h.has_steps;
+  one = h.one;
+  reset = h.reset;
+  decides_is = h.decides_is;
+  next_is = h.next_is;
+  sent = h.sent;
+  told = h.told;
+}
+
+-- ---- its first tick
+
+-- the events of tick t have happened, and the ticks before it are over
+pub record IsReady (x : Happened) (now : LinkView) (s : Plan) (t : ℕ) : Type 0 where
+  pub tx_reset : x.tx_reset ≡ is_reset s Tx t
+  pub rx_reset : x.rx_reset ≡ is_reset s Rx t
+  pub next : x.next ≡ are_past s (t + 1)
+  pub sized : IsSized now s
+  pub planned : HasPlanned now.planning s t
+  pub lanes : HaveRunLanes now.lanes s (lane_ready s (run_of s t))
+  pub rings : HaveRings now.lanes s t t
+  pub at_next : AreAt now.lanes s.link.params
+      (if x.tx_reset then None else next_of s.link.params now.planning.tx.sending)
+  pub collected : HasCollected now.collecting s t
+  pub cells : HaveCells now.collecting.ends s t 0
+
+pub is-ready : (x : Happened) (old now : LinkView) (s : Plan) (t : ℕ) → HasRun old s t
+    → HasHappened x old now s t → IsReady x now s t
+is-ready x old now s t had h =
+    let planning = ap (λ (v : LinkView). v.planning) (sym h.same) in
+    let collecting = ap (λ (v : LinkView). v.collecting) (sym h.same) in
+    let z = had.ran.sized in
+    record {
+      tx_reset = h.tx_reset;
+      rx_reset = h.rx_reset;
+      next = h.next;
+      sized = record {
+        same_link = ap (λ (v : LinkView). v.link) h.same ∙ z.same_link;
+        same_planning = ap (λ (v : LinkView). v.planning.link) h.same ∙ z.same_planning;
+        room = subst (λ (g : Planned). period s.link.params ≤ g.room)
+            (ap (λ (v : LinkView). v.segment) (sym h.same)) z.room;
+        pairs = h.pairs;
+      };
+      planned = subst (λ (p : Planning). HasPlanned p s t) planning had.ran.planned;
+      lanes = h.lanes;
+      rings = h.rings;
+      at_next = subst (λ (p : Planning). AreAt now.lanes s.link.params
+          (if x.tx_reset then None else next_of s.link.params p.tx.sending)) planning h.at_next;
+      collected = subst (λ (k : Collecting). HasCollected k s t) collecting had.collected;
+      cells = subst (λ (k : Collecting). HaveCells k.ends s t 0) collecting had.cells;
+    }
+
+-- the lanes can run what was planned
+pub planned-carried : (v : LinkView) (x : Happened) (s : Plan) (t m : ℕ) (mid : List LanePair)
+    (g : Planned) (after : Planning) → IsLegalLink s → IsReady x v s t → AreSameLanes v.lanes mid
+    → IsPlanned g after mid s t m → length g.steps ≡ suc m
+    → FollowOn g.steps v.planning.link.params
+    (if x.tx_reset then None else next_of v.planning.link.params v.planning.tx.sending)
+    (next_of v.planning.link.params after.tx.sending) (length g.steps)
+    → IsCarried mid g s t m
+    (if x.tx_reset then None else next_of s.link.params v.planning.tx.sending)
+    (next_of s.link.params after.tx.sending)
+planned-carried v x s t m mid g after legal ready same planned count follows =
+    is-carried v.lanes mid g after s t m
+    (if x.tx_reset then None else next_of s.link.params v.planning.tx.sending) legal ready.lanes
+    ready.rings ready.at_next same planned count
+    (subst (λ (k : Link). FollowOn g.steps k.params
+    (if x.tx_reset then None else next_of k.params v.planning.tx.sending)
+    (next_of k.params after.tx.sending) (length g.steps)) ready.sized.same_planning follows)
+
+-- both ends stand at the last tick, and the lanes ran to it
+abbrev pub with_carried : LinkView → Planning → List LanePair → Planned → LinkView
+with_carried v after lanes g = record v { planning = after; lanes = lanes; segment = g }
+
+pub carried-on : (v : LinkView) (x : Happened) (s : Plan) (t m : ℕ) (mid lanes : List LanePair)
+    (g : Planned) (after : Planning) → IsReady x v s t → after.link ≡ v.planning.link
+    → g.room ≡ v.segment.room → AreSameLanes v.lanes mid → IsPlanned g after mid s t m
+    → AreOnRings mid lanes
+    → HaveRunLanes lanes s (lane_stepped (kind_of s.link.params) s (run_of s (t + m)))
+    → HaveRings lanes s (t + m) (t + suc m)
+    → AreAt lanes s.link.params (next_of s.link.params after.tx.sending)
+    → HasCarriedOn (with_carried v after lanes g) s t m
+carried-on v x s t m mid lanes g after ready link room same planned on runs rings at = record {
+  sized = record {
+    same_link = ready.sized.same_link;
+    same_planning = link ∙ ready.sized.same_planning;
+    room = subst (λ (n : ℕ). period s.link.params ≤ n) (sym room) ready.sized.room;
+    pairs = pairs-on mid lanes v.collecting.ends on
+        (pairs-kept v.lanes mid v.collecting.ends (keeps-same v.lanes mid same)
+        ready.sized.pairs);
+  };
+  planned = was-planned g after mid s t m planned;
+  lanes = runs;
+  rings = rings;
+  at_next = at;
+}
+
+-- ---- its last tick ends
+
+-- each lane holds an entry and has room for a cell
+pub can-give : (lanes : List LanePair) (s : Plan) (t : ℕ) → IsLegalLink s → t < s.ticks
+    → HaveRunLanes lanes s (lane_stepped (kind_of s.link.params) s (run_of s t))
+    → HaveRings lanes s t (suc t) → is_running (moment_of s (run_of s t)).stage ≡ true
+    → CanGive lanes
+can-give lanes s t legal within ran rings goes lane d below =
+    let runs = running (moment_of s (run_of s t)).stage goes in
+    let good : IsGood s.link = record { laws = legal.laws; timing = legal.timing } in
+    let r = rings lane d below in
+    let few = few-cells t s lane 0 in
+    let sent_is = ap length r.cells in
+    let count = r.count in
+    (stepped-entry lanes s t good ran runs lane d below, omega arith)
+
+-- where the link does not run, nothing is given
+pub rings-still : (lanes : List LanePair) (s : Plan) (t : ℕ)
+    → is_running (moment_of s (run_of s t)).stage ≡ false → HaveRings lanes s t (suc t)
+    → HaveRings lanes s (suc t) (suc t)
+rings-still lanes s t halts rings lane d below =
+    let r = rings lane d below in
+    record {
+      cells = r.cells
+          ∙ sym (cells-last s lane t
+          ∙ ap (λ (xs : List LaneCell). cells_in s lane 0 t ++ xs) (cells-still s lane t halts)
+          ∙ append-nil (cells_in s lane 0 t));
+      count = r.count;
+      most = r.most;
+    }
+
+pub runs-still : (lanes : List LanePair) (s : Plan) (t : ℕ)
+    → is_running (moment_of s (run_of s t)).stage ≡ false
+    → HaveRunLanes lanes s (lane_stepped (kind_of s.link.params) s (run_of s t))
+    → HaveRunLanes lanes s (lane_run s (run_of s (suc t)))
+unfolding run
+runs-still lanes s t halts ran =
+    let k : LaneKind = kind_of s.link.params in
+    have-same lanes s (lane_stepped k s (run_of s t)) (lane_run s (run_of s (suc t)))
+    (λ lane below. lane-still s (run_of s t) lane (has-hunt-run k t s) halts) ran
+
+-- the receiver has decided, and the lanes gave where the link runs
+pub has-ended : (old now : LinkView) (s : Plan) (t m : ℕ) → HasCarriedOn old s t m
+    → now.planning.link ≡ old.planning.link → now.planning.next ≡ old.planning.next
+    → now.planning.tx.sending ≡ old.planning.tx.sending
+    → IsEnded now.decision now.planning.rx s (run_of s (t + m))
+    → HasSentRun now.planning.tx s (run_of s (suc (t + m)))
+    → now.released ≡ is_running (moment_of s (run_of s (t + m))).stage
+    → HaveRunLanes now.lanes s (lane_run s (run_of s (suc (t + m))))
+    → HaveRings now.lanes s (suc (t + m)) (suc (t + m))
+    → ArePairs now.lanes now.collecting.ends
+    → AreAt now.lanes s.link.params (next_of s.link.params old.planning.tx.sending)
+    → HasEnded now s t m
+unfolding run
+has-ended old now s t m c link next sending over sent released ran rings pairs at =
+    let e : suc (t + m) ≡ t + suc m = omega arith in
+    record {
+      planned = record {
+        stands = subst (λ n. StandAt now.planning s n) e (record {
+          same_link = link ∙ c.sized.same_planning;
+          sent = sent;
+          told = over.stands;
+        });
+        next_is = next ∙ c.planned.next_is;
+      };
+      lanes = subst (λ n. HaveRunLanes now.lanes s (lane_run s (run_of s n))) e ran;
+      rings = subst (λ n. HaveRings now.lanes s n n) e rings;
+      pairs = pairs;
+      at_next = subst (λ x. AreAt now.lanes s.link.params (next_of s.link.params x)) (sym sending)
+          at;
+      decision_is = over.decision_is;
+      alarms_are = over.alarms;
+      released_is = released;
+    }
+
+-- ---- the ends meet the lanes
+
+-- the lanes and ends of `now`, and all else of `old`
+abbrev pub with_met : LinkView → List LanePair → List CellEnd → LinkView
+with_met old lanes ends = record old {
+  lanes = lanes;
+  collecting = record old.collecting { ends = ends };
+}
+
+has-segment : (on v : LinkView) (lanes : List LanePair) (ends : List CellEnd) (s : Plan)
+    (t m : ℕ) → HasCarriedOn on s t m → v.link ≡ on.link → v.segment ≡ on.segment
+    → HasEnded v s t m → HasCollected v.collecting s t → ArePairs lanes ends
+    → HaveCells ends s t (suc m) → HaveRunLanes lanes s (lane_run s (run_of s (t + suc m)))
+    → HaveRings lanes s (t + suc m) (t + suc m)
+    → AreAt lanes s.link.params (next_of s.link.params v.planning.tx.sending)
+    → HasSegment (with_met v lanes ends) s t m 0
+has-segment on v lanes ends s t m c link segment over had pairs cells ran rings at =
+    let z : t ≡ t + 0 = omega arith in
+    let all : suc m ≡ suc m - 0 = omega arith in
+    let count = pairs.count in
+    let long = ran.0 in
+    let planned = subst (λ (g : Planned). WasPlanned g on.planning s t m) (sym segment) c.planned in
+    record {
+      ran = record {
+        sized = record {
+          same_link = link ∙ c.sized.same_link;
+          same_planning = over.planned.stands.same_link;
+          room = subst (λ (g : Planned). period s.link.params ≤ g.room) (sym segment) c.sized.room;
+          pairs = pairs;
+        };
+        planned = over.planned;
+        lanes = ran;
+        rings = rings;
+        at_next = at;
+      };
+      within = omega arith;
+      has_steps = planned.has_steps;
+      one = planned.one;
+      reset = planned.reset;
+      decision_is = over.decision_is;
+      alarms_are = over.alarms_are;
+      released_is = over.released_is;
+      collected = subst (HasCollected (record v.collecting { ends = ends }) s) z (record {
+        end_count = count ∙ long;
+        lead_is = had.lead_is;
+        ahead_is = had.ahead_is;
+        gathered = had.gathered;
+      });
+      cells = subst (λ n. HaveCells ends s n (suc m - 0)) z (subst (HaveCells ends s t) all cells);
+    }
+
+-- the segment `on` was carried, `end` has ended it, and is what `v` is
+pub segment-met : (on end v : LinkView) (lanes : List LanePair) (now : Collecting) (s : Plan)
+    (t m : ℕ) → HasCarriedOn on s t m → v ≡ end
+    → end ≡ record on {
+      planning = end.planning;
+      lanes = end.lanes;
+      decision = end.decision;
+      released = end.released;
+    }
+    → HasEnded end s t m → HasCollected on.collecting s t → HaveCells on.collecting.ends s t 0
+    → now ≡ record v.collecting { ends = now.ends } → ArePairs lanes now.ends
+    → (HaveRings v.lanes s (t + suc m) (t + suc m) → HaveCells v.collecting.ends s t 0
+    → HaveCells now.ends s t (suc m))
+    → ((runs : ℕ → LaneRun) → HaveRunLanes v.lanes s runs → HaveRunLanes lanes s runs)
+    → ((given held : ℕ) → HaveRings v.lanes s given held → HaveRings lanes s given held)
+    → ((p : Params) (next : Option ℕ) → AreAt v.lanes p next → AreAt lanes p next)
+    → HasSegment (record v { lanes = lanes; collecting = now }) s t m 0
+segment-met on end v lanes now s t m c is same ended had cells met pairs knows runs rings at =
+    let over = subst (λ (x : LinkView). HasEnded x s t m) (sym is) ended in
+    let all = is ∙ same in
+    let collecting = sym (ap (λ (x : LinkView). x.collecting) all) in
+    let left = subst (λ (k : Collecting). HaveCells k.ends s t 0) collecting cells in
+    subst (λ (k : Collecting).
+    HasSegment (let x : LinkView = record v { lanes = lanes; collecting = k } in x) s t m 0)
+    (sym met)
+    (has-segment on v lanes now.ends s t m c (ap (λ (x : LinkView). x.link) all)
+    (ap (λ (x : LinkView). x.segment) all) over
+    (subst (λ (k : Collecting). HasCollected k s t) collecting had) pairs (knows over.rings left)
+    (runs (lane_run s (run_of s (t + suc m))) over.lanes)
+    (rings (t + suc m) (t + suc m) over.rings)
+    (at s.link.params (next_of s.link.params v.planning.tx.sending) over.at_next))
+
+-- ---- before the first tick
+
+pub run-none : (v : LinkView) (s : Plan) → v.link ≡ s.link → v.planning.link ≡ s.link
+    → period s.link.params ≤ v.segment.room → ArePairs v.lanes v.collecting.ends
+    → HasPlanned v.planning s 0 → next_of s.link.params v.planning.tx.sending ≡ None
+    → HaveRunLanes v.lanes s (λ lane. no_run s) → HaveRings v.lanes s 0 0
+    → AreAt v.lanes s.link.params None → HasCollected v.collecting s 0
+    → HaveCells v.collecting.ends s 0 0 → HasRun v s 0
+unfolding run
+run-none v s link planning room pairs planned none runs rings at collected cells = record {
+  ran = record {
+    sized = record { same_link = link; same_planning = planning; room = room; pairs = pairs };
+    planned = planned;
+    lanes = have-same v.lanes s (λ lane. no_run s) (lane_run s (run_of s 0))
+        (λ lane below. sym (lane-run-none s lane)) runs;
+    rings = rings;
+    at_next = subst (AreAt v.lanes s.link.params) (sym none) at;
+  };
+  collected = collected;
+  cells = cells;
+}

@@ -1,0 +1,24 @@
+use Rattle.std.proofs.Common.{◌≡◌, ◌+◌, ℕ, suc, true, Some}
+use Rattle.scenario.specs.Plans.{Plan, plan_of}
+use Rattle.link_model.specs.Kinds.{run_of}
+use Rattle.link_run.specs.Rows.{WasHanded}
+use Rattle.link_run.specs.kept.LinkStates.{HasSegment}
+use Rattle.link_run.specs.kept.Reported.{AreFew, HasReported, handed_so_far}
+use Rattle.link_run.proofs.runs.report_segment.Given as goal
+
+abbrev pub invariant-loop-i : goal.invariant-loop-i
+invariant-loop-i g l = record {
+  same : l.state.link ≡ l.fn.state.link;
+  stands : (plan : Plan) → plan_of l.s ≡ Some plan
+      → (m : ℕ) × (l.count ≡ suc m) × HasSegment l.state plan l.t m l.i;
+  reported : (plan : Plan) → plan_of l.s ≡ Some plan
+      → HasReported l.report plan (run_of plan (l.t + l.i));
+  few : AreFew l.report.totals (l.t + l.i);
+  params : (l.report.params ≡ l.fn.report.params) × (l.report.short ≡ l.fn.report.short);
+  shape : g.W.Rows.shape l.rows ≡ g.W.Rows.shape l.fn.rows;
+  handed : (plan : Plan) (start : g.row.W.Denot) → plan_of l.s ≡ Some plan
+      → WasHanded g.row.W.Denot g.W.Rows.Took g.W.Rows.shape g.W.Rows.faults start l.fn.rows true
+      (handed_so_far l.fn.report.short plan (run_of plan l.t))
+      → WasHanded g.row.W.Denot g.W.Rows.Took g.W.Rows.shape g.W.Rows.faults start l.rows true
+      (handed_so_far l.fn.report.short plan (run_of plan (l.t + l.i)));
+}

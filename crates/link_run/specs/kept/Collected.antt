@@ -1,0 +1,62 @@
+-- The cells that are taken from the rings of the lanes, and the frames that are gathered from them.
+-- Code: the ends of the rings, a count, and one frame.
+use Rattle.std.specs.Prelude.{◌≡◌, ◌<◌, ◌≤◌, ℕ, suc, ◌+◌, ◌-◌, ◌*◌, Bool, true, if◌then◌else◌, List, All, length, get_or, None}
+use Rattle.rtrb.specs.Ring.{known_items}
+use Rattle.link_params.specs.declared.fields.Params.{Params}
+use Rattle.link_params.specs.Laws.{broken_law, is_b}
+use Rattle.link_params.specs.Numbers.{octets_per_tick, period}
+use Rattle.link_params.specs.TimingLaws.{broken_timing}
+use Rattle.scenario.specs.Plans.{Plan}
+use Rattle.link_model.specs.kept.Before.{Columns, columns_now, current}
+use Rattle.link_model.specs.Gives.{gives_in}
+use Rattle.link_model.specs.Kinds.{kind_of, moment_of, run_of}
+use Rattle.link_model.specs.Moments.{History}
+use Rattle.lane_threads.specs.declared.cell_end.CellEnd.{CellEnd}
+use Rattle.link_run.specs.kept.Ends.{HaveCells}
+use Rattle.link_run.specs.kept.Gathered.{Gathering, HasGathered, Whole, delivered_of}
+
+-- the ends, how many entries of a session are places of the alignment sequence, how many of them
+-- are still to come, and the frame that is gathered
+pub record Collecting : Type 0 where
+  pub ends : List CellEnd
+  pub lead : ℕ
+  pub ahead : ℕ
+  pub gathering : Gathering
+
+-- the entries of a lane that are places of the alignment sequence: four multiframes, and none with
+-- 64b/66b lanes
+abbrev pub lead_of : Params → ℕ
+lead_of p = if is_b p.mode then 4 * period p else 0
+
+-- the columns of the session of the last tick
+abbrev pub columns_of : Plan → History → Columns
+columns_of s h = columns_now (kind_of s.link.params) s h
+
+-- the first t ticks were collected
+pub record HasCollected (now : Collecting) (s : Plan) (t : ℕ) : Type 0 where
+  pub end_count : length now.ends ≡ s.link.params.l
+  pub lead_is : now.lead ≡ lead_of s.link.params
+  pub ahead_is : now.ahead ≡ now.lead - gives_in (current (run_of s t))
+  pub gathered : HasGathered now.gathering s.link.params (columns_of s (run_of s t))
+
+-- the link of this plan is legal
+pub record IsLegalLink (s : Plan) : Type 0 where
+  pub laws : broken_law s.link.params ≡ None
+  pub timing : broken_timing s.link.params s.link.timing ≡ None
+
+-- a cell is known to be there at each end, where the link runs and the tick brings cells
+abbrev pub CanCollect : Collecting → Bool → Bool → Type 0
+CanCollect now hunt runs = (length now.ends ≡ now.gathering.params.l)
+    × (runs ≡ true → (if hunt then now.lead else now.ahead) ≡ 0
+    → (lane : ℕ) (e : CellEnd) → lane < length now.ends
+    → 0 < length (known_items (get_or now.ends lane e).ring))
+
+-- tick t was collected too, of the n + 1 ticks whose cells were known to be there
+pub record Collects (now : Collecting) (s : Plan) (t n : ℕ) : Type 0 where
+  pub has : HasCollected now s (suc t)
+  pub cells : HaveCells now.ends s (suc t) n
+  pub delivered_is : (moment_of s (run_of s t)).delivered ≡ delivered_of s.link.params
+      (octets_per_tick s.link.params * (t + 1)) now.gathering.frames now.gathering.at
+  pub sizes : All (λ (f : Whole). length f.octets ≡ s.link.params.l * s.link.params.f)
+      now.gathering.frames
+  pub begun : now.gathering.at ≤ 256

@@ -1,0 +1,170 @@
+//! The cells of the lanes, joined to frames.
+ghost use Rattle.std.specs.Prelude.{◌≡◌, ◌≤◌, ◌<◌, ◌+◌, [], List, ℕ, suc, Option, length, get_or, map, if◌then◌else◌, IfOk};
+ghost use Rattle.rtrb.specs.Ring.{known_items};
+ghost use Rattle.link_params.specs.declared.fields.Params.{Params as ParamsValue};
+ghost use Rattle.link_model.specs.kept.LaneRuns.{LaneRun};
+ghost use Rattle.bring_up.specs.Decisions.{is_running};
+ghost use Rattle.scenario.specs.Plans.{Plan};
+ghost use Rattle.link_model.specs.Kinds.{moment_of, run_of};
+ghost use Rattle.link_model.specs.kept.Before.{Columns};
+ghost use Rattle.lane_threads.specs.declared.cell_end.CellEnd.{CellEnd as EndValue};
+ghost use Rattle.lane_threads.specs.declared.lane_pair.LanePair.{LanePair as PairValue};
+ghost use Rattle.link_run.specs.kept.Collected.{CanCollect, Collects, HasCollected, IsLegalLink, lead_of};
+ghost use Rattle.link_run.specs.kept.Ends.{ArePairs, HaveCells, HavePopped, next_cell};
+ghost use Rattle.link_run.specs.kept.Gathered.{HasGathered};
+ghost use Rattle.link_run.specs.kept.LaneRuns.{AreAt, HaveRings, HaveRunLanes};
+
+use crate::deframer::Deframer;
+use crate::lanes::Lanes;
+use jesd_base::NoMemory;
+use lane_threads::CellEnd;
+use link_params::{LaneCell, Link, Mode};
+use std::alloc::Global;
+use std::marker::Model;
+
+/// The ends of the lanes' rings, and the frame that is gathered from their cells.
+#[derive(Drop)]
+pub struct Collector {
+    ends: Vec<CellEnd>,
+    // The entries of a session that are places of the alignment sequence, and those that are still
+    // to come.
+    lead: u32,
+    ahead: u32,
+    given: Vec<Option<LaneCell>>,
+    deframer: Deframer,
+}
+
+impl Model for Collector {
+    ghost use Rattle.std.specs.Prelude.{◌≡◌, ◌≤◌, length};
+    ghost use Rattle.link_run.specs.kept.Collected.{Collecting};
+
+    ghost Value = { Collecting };
+
+    ghost view = { λ c. record {
+      ends = c.ends.items;
+      lead = c.lead;
+      ahead = c.ahead;
+      gathering = c.deframer;
+    } };
+
+    ghost invariant = { λ c. (length c.given.items ≡ c.deframer.params.l) × (c.ahead ≤ c.lead) };
+}
+
+impl Collector {
+    /// A collector at these ends, of which nothing was taken. All its memory is taken here;
+    /// `NoMemory` where there is none.
+    pub fn open(alloc: Global, link: &Link, ends: Vec<CellEnd>) -> Result<Collector, NoMemory>
+        requires ends { length ends.items ≡ link.now.params.l }
+        ensures begins { (s : Plan) → s.link ≡ link.now → IfOk result (λ c. HasCollected c s 0) }
+        ensures ends { IfOk result (λ c. c.ends ≡ ends.items) }
+    {
+        let shape = link.shape();
+        let Ok(given) = vec![in alloc; None; shape.lanes() as usize] else {
+            return Err(NoMemory);
+        };
+        let lead = lead_of(link);
+        Ok(Collector {
+            ends,
+            lead,
+            ahead: lead,
+            given,
+            deframer: Deframer::open(alloc, &shape)?,
+        })
+    }
+
+    /// The next tick, with which a hunt begins or not, and after which the link runs or not.
+    pub fn take(&mut self, hunt: bool, runs: bool)
+        requires can { CanCollect self.old hunt runs }
+        ensures took { (s : Plan) (t n : ℕ) → IsLegalLink s → HasCollected self.old s t
+            → HaveCells self.old.ends s t (suc n)
+            → hunt ≡ (moment_of s (run_of s t)).told.hunt
+            → runs ≡ is_running (moment_of s (run_of s t)).stage → Collects self.new s t n }
+        ensures pairs { (lanes : List PairValue) → ArePairs lanes self.old.ends
+            → ArePairs lanes self.new.ends }
+    {
+        self.begin(hunt);
+        if !runs {
+            self.deframer.rest();
+        } else if self.ahead > 0 {
+            self.ahead -= 1;
+            self.deframer.rest();
+        } else {
+            pop_each(self.ends.as_mut_slice(), self.given.as_mut_slice());
+            self.deframer.take(&self.given);
+        }
+    }
+
+    // The next tick begins, and with it a hunt or not.
+    fn begin(&mut self, hunt: bool)
+        ensures gathered { (p : ParamsValue) (columns : Columns)
+            → HasGathered self.old.gathering p columns
+            → HasGathered self.new.gathering p (if hunt then [] else columns) }
+        ensures same { self.new ≡ record self.old {
+          ahead = if hunt then self.old.lead else self.old.ahead;
+          gathering = self.new.gathering;
+        } }
+        ensures params { self.new.gathering.params ≡ self.old.gathering.params }
+    {
+        if hunt {
+            self.deframer.clear();
+            self.ahead = self.lead;
+        }
+    }
+
+    /// The ends meet the lanes: they know of all cells that were sent and not received.
+    pub fn meet(&mut self, lanes: &mut Lanes)
+        requires pairs { ArePairs lanes.old self.old.ends }
+        ensures pairs { ArePairs lanes.new self.new.ends }
+        ensures knows { (s : Plan) (t n : ℕ) → HaveRings lanes.old s (t + n) (t + n)
+            → HaveCells self.old.ends s t 0 → HaveCells self.new.ends s t n }
+        ensures lanes { (s : Plan) (runs : ℕ → LaneRun) → HaveRunLanes lanes.old s runs
+            → HaveRunLanes lanes.new s runs }
+        ensures rings { (s : Plan) (given held : ℕ) → HaveRings lanes.old s given held
+            → HaveRings lanes.new s given held }
+        ensures at { (p : ParamsValue) (next : Option ℕ) → AreAt lanes.old p next
+            → AreAt lanes.new p next }
+        ensures same { self.new ≡ record self.old { ends = self.new.ends } }
+    {
+        lanes.meet(self.ends.as_mut_slice());
+    }
+
+    /// The end of each lane's ring, in ascending lanes.
+    pub fn ends(&self) -> &[CellEnd]
+        ensures { result.now ≡ self.now.ends }
+    {
+        self.ends.as_slice()
+    }
+
+    /// The frames that were delivered in the last tick, oldest first, and how many octets of each
+    /// lane are there of the one that is not whole.
+    pub fn delivered(&self) -> &Deframer
+        ensures { result.now ≡ self.now.gathering }
+    {
+        &self.deframer
+    }
+}
+
+// The next cell of each lane.
+fn pop_each(ends: &mut [CellEnd], given: &mut [Option<LaneCell>])
+    requires count { length given.old ≡ length ends.old }
+    requires known { (lane : ℕ) (e : EndValue) → lane < length ends.old
+        → 0 < length (known_items (get_or ends.old lane e).ring) }
+    ensures given { given.new ≡ map next_cell ends.old }
+    ensures popped { HavePopped ends.old ends.new }
+{
+    for (lane, end) in ends.iter_mut().enumerate() {
+        given[lane] = Some(end.pop());
+    }
+}
+
+// The entries of a lane that are places of the alignment sequence (JESD204B.01 clause 5.3.3.5,
+// initial lane alignment).
+fn lead_of(link: &Link) -> u32
+    ensures { result ≡ lead_of link.now.params }
+{
+    let shape = link.shape();
+    match shape.params().mode {
+        Mode::B => 4 * shape.period(),
+        Mode::CCrc | Mode::CFec => 0,
+    }
+}
