@@ -8,11 +8,16 @@
 #     RBDS="36 40 44" DELAYS="340 407" examples/sweep.sh examples/own-link.csv 1
 #
 # The first word is the scenario, the second the lane whose delay is changed from tick 0 on. RBDS
-# and DELAYS are lists, WORKERS is how many runs go at a time, and BENCH is the program.
+# and DELAYS are lists, WORKERS is how many runs go at a time, and BENCH is the program: if not
+# set, the bench beside this folder.
 set -u
 scenario=${1:?the scenario} lane=${2:-0}
 rbds=${RBDS:-$(seq 0 127)} delays=${DELAYS:-0}
-export BENCH=${BENCH:-./bench}
+export BENCH=${BENCH:-$(dirname "$0")/../bench}
+if [ ! -r "$scenario" ]; then
+    echo "sweep: $scenario cannot be read" >&2
+    exit 1
+fi
 
 # The scenario with another RBD and another delay of the lane.
 changed() {

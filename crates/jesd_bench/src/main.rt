@@ -1,5 +1,5 @@
-//! The bench program: `jesd_bench JOB [--workers N] [--number N]`, with its input on standard input and its lines on
-//! standard output. Its exit code is the status of its job.
+//! The bench program: `jesd_bench JOB [--workers N] [--number N]`, with its input on standard input
+//! and its lines on standard output. Its exit code is the status of its job.
 #![tactic(auto)]
 
 use jesd_base::{Sink, Source, Status, StdSink, StdSource};

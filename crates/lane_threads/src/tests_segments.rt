@@ -5,7 +5,7 @@ ghost use Rattle.link_params.specs.declared.orders.TxOrder.TheVariants.{Comma};
 ghost use Rattle.lane_threads.specs.Segments.{CanRun};
 ghost use Rattle.lane_threads.specs.declared.step.Step.{Step as StepValue};
 
-use crate::gate::{Gate, NoSide};
+use crate::gate::{Gate, NoSide, Side};
 use crate::lane::open_line;
 use crate::lane_pair::LanePair;
 use crate::segment::run_segment;
@@ -17,7 +17,7 @@ use std::sync::atomic::{AtomicBool, Ordering};
 use std::test::Fail;
 use std::thread::Threads;
 
-// Two lanes, a multiframe of 17 octets.
+// Two lanes, a multiframe of 1,024 octets.
 fn link() -> Option<Link>
     ensures { IfSome result (λ k. (k.params.mode ≡ B) × (k.params.l ≡ 2)) }
 {
@@ -25,18 +25,18 @@ fn link() -> Option<Link>
         mode: Mode::B,
         l: 2,
         m: 2,
-        f: 1,
-        s: 1,
+        f: 32,
+        s: 32,
         n: 8,
         np: 8,
         cs: 0,
         hd: false,
         scr: false,
-        k: 17,
+        k: 32,
         e: 0,
     };
     let timing = Timing {
-        sysref_period: 1088,
+        sysref_period: 2048,
         sysref_start: 2,
         tx_skew: 8,
         rx_skew: 120,
@@ -81,6 +81,9 @@ fn open_lane(alloc: Global, link: &Link, lane: u32, steps: &[Step]) -> Result<La
     Ok(lane)
 }
 
+// How often one looks for the other.
+const TURNS: u32 = 10_000_000;
+
 // A gate that two lanes pass: each one looks for the other.
 #[derive(Drop)]
 struct Meeting {
@@ -106,7 +109,7 @@ impl Gate for Meeting {
     fn pass(&self, lane: u32) {
         let own = usize::from(lane != 0);
         self.here[own].store(true, Ordering::SeqCst);
-        for _ in 0..10_000_000 {
+        for _ in 0..TURNS {
             if self.here[1 - own].load(Ordering::SeqCst) {
                 self.met[own].store(true, Ordering::SeqCst);
                 return;
@@ -135,5 +138,79 @@ fn workers_overlap(rt: HostRuntime) -> Result<(), Fail> {
     let alloc = rt.alloc();
     assert_eq!(rt; have_met(&rt, alloc, 2).ok(), Some(true));
     assert_eq!(rt; have_met(&rt, alloc, 1).ok(), Some(false));
+    Ok(())
+}
+
+// A lane and what runs beside the lanes, of which each looks for the other.
+#[derive(Drop)]
+struct Beside {
+    lane: AtomicBool,
+    side: AtomicBool,
+    lane_met: AtomicBool,
+    side_met: AtomicBool,
+}
+
+// Shows a flag, and looks for the other one: whether it was seen.
+fn look(own: &AtomicBool, other: &AtomicBool) -> bool {
+    own.store(true, Ordering::SeqCst);
+    for _ in 0..TURNS {
+        if other.load(Ordering::SeqCst) {
+            return true;
+        }
+    }
+    false
+}
+
+impl Gate for Beside {
+    fn pass(&self, _lane: u32) {
+        if look(&self.lane, &self.side) {
+            self.lane_met.store(true, Ordering::SeqCst);
+        }
+    }
+}
+
+// The side that looks for a lane.
+#[derive(Drop)]
+struct Looking<'a> {
+    beside: &'a Beside,
+}
+
+impl<'a> Side for Looking<'a> {
+    ghost runs = { λ a b. Unit {0} };
+
+    fn run(&mut self) {
+        if look(&self.beside.side, &self.beside.lane) {
+            self.beside.side_met.store(true, Ordering::SeqCst);
+        }
+    }
+}
+
+// Whether a lane and the side are at work at one time, on one worker, in a segment of so many ticks.
+fn overlap<R: Threads + Sync>(rt: &R, alloc: Global, steps: &[Step]) -> Result<bool, NoMemory>
+    requires hunts { (n : ℕ) (d : StepValue) → n < length steps.now
+        → ((get_or steps.now n d).tx ≡ Comma) × ((get_or steps.now n d).rx.hunt ≡ true) }
+{
+    let link = link().ok_or(NoMemory)?;
+    let first = open_lane(alloc, &link, 0, steps)?;
+    let second = open_lane(alloc, &link, 1, steps)?;
+    let mut lanes = [first, second];
+    let beside = Beside {
+        lane: AtomicBool::new(false),
+        side: AtomicBool::new(false),
+        lane_met: AtomicBool::new(false),
+        side_met: AtomicBool::new(false),
+    };
+    let mut looking = Looking { beside: &beside };
+    run_segment(rt, 1, &mut lanes, steps, false, &beside, &mut looking);
+    Ok(beside.lane_met.load(Ordering::SeqCst) && beside.side_met.load(Ordering::SeqCst))
+}
+
+// With one worker the side runs beside the lanes where they have many ticks, and after them where
+// they have few.
+#[test]
+fn deframer_overlaps(rt: HostRuntime) -> Result<(), Fail> {
+    let alloc = rt.alloc();
+    assert_eq!(rt; overlap(&rt, alloc, &[HUNT; 1024]).ok(), Some(true));
+    assert_eq!(rt; overlap(&rt, alloc, &[HUNT]).ok(), Some(false));
     Ok(())
 }

@@ -37,6 +37,8 @@ mod tests_clock;
 #[cfg(test)]
 mod tests_parts;
 #[cfg(test)]
+mod tests_rows;
+#[cfg(test)]
 mod tests_runs;
 mod text_rows;
 mod ticked;
