@@ -25,23 +25,3 @@ abbrev pub HaveCells : List CellEnd → Plan → ℕ → ℕ → Type 0
 HaveCells ends s t n = (lane : ℕ) (e : CellEnd) → lane < length ends
     → HasCells (get_or ends lane e) s t n lane
 
--- the next cell that is known to be there
-abbrev pub first_of : List LaneCell → Option LaneCell
-first_of [] = None
-first_of (x ∷ xs) = Some x
-
-abbrev pub next_cell : CellEnd → Option LaneCell
-next_cell end = first_of (known_items end.ring)
-
--- a cell was taken from an end
-pub record IsPopped (old now : CellEnd) : Type 0 where
-  pub cell : LaneCell
-  pub known_before : known_items old.ring ≡ cell ∷ known_items now.ring
-  pub received_too : received now.ring ≡ received old.ring ++ cell ∷ []
-  pub ring : SameConsumer old.ring now.ring
-
--- the next one was taken from each end
-pub record HavePopped (old now : List CellEnd) : Type 0 where
-  pub count : length now ≡ length old
-  pub each : (lane : ℕ) (e : CellEnd) → lane < length old
-      → IsPopped (get_or old lane e) (get_or now lane e)
