@@ -22,6 +22,7 @@ pub mod TickRows
 pub mod LaneStates
 pub mod GiveFacts
 pub mod Collecting
+pub mod Filling
 pub mod SegmentFacts
 pub mod LinkRuns
 pub mod TickFacts

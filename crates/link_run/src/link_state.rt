@@ -4,7 +4,7 @@ ghost use Rattle.link_params.specs.declared.fields.Params.{Params as ParamsValue
 ghost use Rattle.scenario.specs.Plans.{Plan, plan_of};
 ghost use Rattle.link_model.specs.Kinds.{run_of};
 ghost use Rattle.link_model.specs.kept.LaneRuns.{LaneRun};
-ghost use Rattle.link_run.specs.kept.Ends.{ArePairs};
+ghost use Rattle.link_run.specs.kept.Ends.{ArePairs, HaveCells};
 ghost use Rattle.link_run.specs.kept.Gathered.{Whole};
 ghost use Rattle.link_run.specs.kept.LaneRuns.{AreAt, HaveRunLanes, KeepRings};
 ghost use Rattle.link_run.specs.kept.LinkStates.{HasCarriedOn, HasEnded, HasFinished, HasHappened, HasNext, HasReportedBefore, HasRun, HasRunLanes, HasSegment, alarms_in, decision_in, reset_in, runs_in, seen_in};
@@ -106,10 +106,10 @@ impl LinkState {
     {
         let _shape = self.link.shape();
         let _timing = self.link.timing();
+        self.meet();
         let happened = self.happen(s, t);
         let (lanes, segment) = (&mut self.lanes, &mut self.latest.segment);
         self.planner.plan(s, t, &happened, lanes, segment);
-        self.collector.meet(&mut self.lanes);
         let segment = &self.latest.segment;
         self.lanes.carry(rt, workers, segment, gate, &mut self.collector);
         let count = self.latest.segment.len() as u32;
@@ -133,8 +133,22 @@ impl LinkState {
             → HasFinished self.new s from t }
         ensures same { self.new.link ≡ self.old.link }
     {
-        self.collector.meet(&mut self.lanes);
+        self.meet();
         self.collector.run();
+    }
+
+    // The ends of the rings know of all that the lanes gave.
+    fn meet(&mut self)
+        requires { ArePairs self.old.lanes self.old.collecting.ends }
+        ensures ran { (s : Plan) (t : ℕ) → HasRunLanes self.old s t → HasRunLanes self.new s t }
+        ensures knows { (s : Plan) (t n : ℕ) → HasRunLanes self.old s (t + n)
+            → HaveCells self.old.collecting.ends s t 0 → HaveCells self.new.collecting.ends s t n }
+        ensures same { self.new ≡ record self.old {
+          lanes = self.new.lanes;
+          collecting = record self.old.collecting { ends = self.new.collecting.ends };
+        } }
+    {
+        self.collector.meet(&mut self.lanes);
     }
 
     // The events of tick `t` happen.
