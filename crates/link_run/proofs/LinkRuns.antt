@@ -21,7 +21,7 @@ use Rattle.link_model.specs.kept.LaneRuns.{LaneRun, lane_ready, lane_run, lane_s
 use Rattle.link_model.specs.Run.{run}
 use Rattle.link_run.proofs.Carrying.{few-cells}
 use Rattle.link_run.proofs.Collecting.{cells-last, cells-still, running}
-use Rattle.link_run.proofs.Filling.{filled-all, pairs-filled, room-filled}
+use Rattle.link_run.proofs.TakenCells.{filled-all, pairs-filled, room-filled}
 use Rattle.link_run.proofs.GiveFacts.{lane-still}
 use Rattle.link_run.proofs.LaneStates.{have-same}
 use Rattle.link_run.proofs.Rooms.{IsGood, stepped-entry}
@@ -360,32 +360,25 @@ pub record HasTaken (now : Collecting) (s : Plan) (from t : ℕ) : Type 0 where
   pub waiting : HaveWaiting now.waiting s from (t - from)
   pub cells : HaveCells now.ends s t 0
 
-pub has-taken : (v met : LinkView) (now : Collecting) (s : Plan) (from t : ℕ) → HasRun v s from t
-    → HasRunLanes met s t
-    → ((n : ℕ) → HasRunLanes v s (from + n) → HaveCells met.collecting.ends s from n)
-    → met ≡ record v {
-      lanes = met.lanes;
-      collecting = record v.collecting { ends = met.collecting.ends };
-    }
-    → now ≡ record met.collecting { ends = now.ends; waiting = now.waiting }
-    → AreFilled met.collecting.waiting now.waiting met.collecting.ends now.ends
-    → HasTaken now s from t
-has-taken v met now s from t h ran knows is same filled =
+pub has-taken : (v : LinkView) (old now : Collecting) (s : Plan) (from t : ℕ) → HasRun v s from t
+    → length old.ends ≡ s.link.params.l
+    → ((n : ℕ) → HasRunLanes v s (from + n) → HaveCells old.ends s from n)
+    → old ≡ record v.collecting { ends = old.ends }
+    → now ≡ record old { ends = now.ends; waiting = now.waiting }
+    → AreFilled old.waiting now.waiting old.ends now.ends → HasTaken now s from t
+has-taken v old now s from t h ends knows is same filled =
     let (within, short) = up-to v.last s from t h.before in
-    let old = met.collecting in
     let had = h.collected in
     let n = t - from in
     let all : from + n ≡ t = omega arith in
-    let waits = ap (λ (x : LinkView). x.collecting.waiting) is in
-    let ends : length old.ends ≡ s.link.params.l = ran.sized.pairs.count ∙ ran.lanes.0 in
+    let waits = ap (λ (k : Collecting). k.waiting) is in
     let room = subst (λ ws. HaveRoom ws (period s.link.params)) (sym waits) had.room in
     let none = subst (λ ws. HaveWaiting ws s from 0) (sym waits) h.none_waits in
     let count : length old.waiting ≡ s.link.params.l = ap length waits ∙ had.wait_count in
     let known = knows n (subst (HasRunLanes v s) (sym all) h.ran) in
     let (waiting, cells) = filled-all old.waiting now.waiting old.ends now.ends s from n filled
     (count ∙ sym ends) (λ lane w below. (let high = room lane w below in omega arith)) none known in
-    let lead = ap (λ (k : Collecting). k.lead) same
-    ∙ ap (λ (x : LinkView). x.collecting.lead) is in
+    let lead = ap (λ (k : Collecting). k.lead) same ∙ ap (λ (k : Collecting). k.lead) is in
     record {
       collected = record {
         end_count = filled.end_count ∙ ends;
@@ -394,12 +387,12 @@ has-taken v met now s from t h ran knows is same filled =
             (count ∙ sym ends) room;
         lead_is = lead ∙ had.lead_is;
         ahead_is = ap (λ (k : Collecting). k.ahead) same
-            ∙ ap (λ (x : LinkView). x.collecting.ahead) is ∙ had.ahead_is
+            ∙ ap (λ (k : Collecting). k.ahead) is ∙ had.ahead_is
             ∙ ap (λ (k : ℕ). k - gives_in (current (run_of s from))) (sym lead);
         gathered = subst (λ (k : Gathering). HasGathered k s.link.params
             (columns_of s (run_of s from)))
             (sym (ap (λ (k : Collecting). k.gathering) same
-            ∙ ap (λ (x : LinkView). x.collecting.gathering) is)) had.gathered;
+            ∙ ap (λ (k : Collecting). k.gathering) is)) had.gathered;
       };
       waiting = waiting;
       cells = subst (λ (k : ℕ). HaveCells now.ends s k 0) all cells;

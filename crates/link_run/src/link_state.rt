@@ -139,7 +139,7 @@ impl LinkState {
 
     // The ends of the rings know of all that the lanes gave.
     fn meet(&mut self)
-        requires { ArePairs self.old.lanes self.old.collecting.ends }
+        requires pairs { ArePairs self.old.lanes self.old.collecting.ends }
         ensures ran { (s : Plan) (t : ℕ) → HasRunLanes self.old s t → HasRunLanes self.new s t }
         ensures knows { (s : Plan) (t n : ℕ) → HasRunLanes self.old s (t + n)
             → HaveCells self.old.collecting.ends s t 0 → HaveCells self.new.collecting.ends s t n }
