@@ -14,6 +14,7 @@ pub mod Carrying
 pub mod Marks
 pub mod RowOctets
 pub mod Gathering
+pub mod Filling
 pub mod NamedOctets
 pub mod RunFacts
 pub mod Rooms
