@@ -15,6 +15,7 @@ pub mod Marks
 pub mod RowOctets
 pub mod Gathering
 pub mod Filling
+pub mod TakenCells
 pub mod NamedOctets
 pub mod RunFacts
 pub mod Rooms
