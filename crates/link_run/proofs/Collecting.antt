@@ -368,7 +368,8 @@ collects-still was s t n r l cells halts none =
           (l.ahead_is ∙ ap (λ (m : ℕ). was.lead - m) same)
           (subst (HasGathered was.gathering p) (sym (columns-still s h r halts)) l.gathered);
       cells = λ lane w below.
-          waits-none _ s t n lane (cells-still s lane t halts) (cells lane w below);
+          waits-none (get_or was.waiting lane w) s t n lane (cells-still s lane t halts)
+          (cells lane w below);
       delivered_is = delivered-in s t was.gathering.frames was.gathering.at
           (rw none (delivered-nothing s h was.gathering.at
           (delivered-still (kind_of p) s h halts)));
@@ -396,7 +397,8 @@ collects-early was s t n r l cells goes some none =
           (subst (HasGathered was.gathering p) (sym (columns-early s h r early)) l.gathered);
       cells = λ lane w below.
           (let waits = l.wait_count in
-          waits-none _ s t n lane (cells-early s lane t r (omega arith) early)
+          waits-none (get_or was.waiting lane w) s t n lane
+          (cells-early s lane t r (omega arith) early)
           (cells lane w below));
       delivered_is = delivered-in s t was.gathering.frames was.gathering.at
           (rw none (delivered-nothing s h was.gathering.at
