@@ -14,6 +14,8 @@ pub mod Carrying
 pub mod Marks
 pub mod RowOctets
 pub mod Gathering
+pub mod Filling
+pub mod TakenCells
 pub mod NamedOctets
 pub mod RunFacts
 pub mod Rooms

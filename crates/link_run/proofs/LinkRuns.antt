@@ -14,23 +14,20 @@ use Rattle.lane_threads.specs.declared.lane_pair.LanePair.{LanePair}
 use Rattle.lane_threads.specs.kept.LaneRuns.{HasRunLane}
 use Rattle.link_model.proofs.LaneHistory.{has-hunt-run, lane-run-none}
 use Rattle.link_model.specs.Edges.{is_reset}
-use Rattle.link_model.specs.Gives.{gives_in}
 use Rattle.link_model.specs.Kinds.{kind_of, moment_of, run_of}
-use Rattle.link_model.specs.kept.Before.{current}
 use Rattle.link_model.specs.kept.LaneRuns.{LaneRun, lane_ready, lane_run, lane_stepped, no_run}
 use Rattle.link_model.specs.Run.{run}
 use Rattle.link_run.proofs.Carrying.{few-cells}
 use Rattle.link_run.proofs.Collecting.{cells-last, cells-still, running}
-use Rattle.link_run.proofs.TakenCells.{filled-all, pairs-filled, room-filled}
+use Rattle.link_run.proofs.TakenCells.{filled-cells, filled-collected, filled-pairs, filled-waiting}
 use Rattle.link_run.proofs.GiveFacts.{lane-still}
 use Rattle.link_run.proofs.LaneStates.{have-same}
 use Rattle.link_run.proofs.Rooms.{IsGood, stepped-entry}
 use Rattle.link_run.specs.declared.ended.Ended.{Ended}
 use Rattle.link_run.specs.declared.happened.Happened.{Happened}
 use Rattle.link_run.specs.Given.{cells_in}
-use Rattle.link_run.specs.kept.Collected.{Collecting, HasCollected, IsLegalLink, columns_of}
+use Rattle.link_run.specs.kept.Collected.{Collecting, HasCollected, IsLegalLink}
 use Rattle.link_run.specs.kept.Ends.{ArePairs, HaveCells}
-use Rattle.link_run.specs.kept.Gathered.{Gathering, HasGathered}
 use Rattle.link_run.specs.kept.Happened.{are_past}
 use Rattle.link_run.specs.kept.LaneRuns.{AreAt, AreOnRings, AreSameLanes, HaveRings, HaveRunLanes, KeepRings}
 use Rattle.link_run.specs.kept.LinkStates.{HasCarriedOn, HasEnded, HasFinished, HasHappened, HasNext, HasReportedBefore, HasRun, HasRunLanes, IsBefore, IsSized, LinkView, WasPlanned}
@@ -38,7 +35,7 @@ use Rattle.link_run.specs.kept.ReceiverRuns.{HasReceivedRun, IsEnded, RxEnd}
 use Rattle.link_run.specs.kept.Segments.{CanGive, FollowOn, HasPlanned, HasSteps, IsCarried, IsOneSegment, IsPlanned, Planned, Planning, StandAt}
 use Rattle.link_run.specs.kept.Sendings.{next_of}
 use Rattle.link_run.specs.kept.Transmitters.{HasSentRun}
-use Rattle.link_run.specs.kept.Waits.{AreFilled, HaveRoom, HaveWaiting, Waits}
+use Rattle.link_run.specs.kept.Waits.{AreFilled, HaveWaiting}
 
 -- ---- lanes and ends that stay pairs
 
@@ -219,7 +216,7 @@ carried-on v x s t m mid lanes g after now ready link room same planned on fille
         same_planning = link ∙ ready.sized.same_planning;
         room = subst (λ (n : ℕ). period s.link.params ≤ n) (sym room) ready.sized.room;
         last_room = ready.sized.last_room;
-        pairs = pairs-filled lanes _ _ _ _ filled (pairs-on mid lanes v.collecting.ends on
+        pairs = filled-pairs lanes _ _ _ _ filled (pairs-on mid lanes v.collecting.ends on
             (pairs-kept v.lanes mid v.collecting.ends (keeps-same v.lanes mid same)
             ready.sized.pairs));
       };
@@ -351,7 +348,7 @@ pub has-filled : (v : LinkView) (now : Collecting) (s : Plan) (t : ℕ) → HasR
     → HasRunLanes (with_met v v.lanes now) s t
 has-filled v now s t h filled =
     has-met v v.lanes now s t h
-    (pairs-filled v.lanes _ _ _ _ filled h.sized.pairs) (λ runs had. had) (λ given held had. had)
+    (filled-pairs v.lanes _ _ _ _ filled h.sized.pairs) (λ runs had. had) (λ given held had. had)
     (λ p next had. had)
 
 -- the ends have met the lanes, and the cells from tick `from` on and before tick t were taken
@@ -369,33 +366,29 @@ pub has-taken : (v : LinkView) (old now : Collecting) (s : Plan) (from t : ℕ) 
 has-taken v old now s from t h ends knows is same filled =
     let (within, short) = up-to v.last s from t h.before in
     let had = h.collected in
+    let m = period s.link.params in
     let n = t - from in
     let all : from + n ≡ t = omega arith in
-    let waits = ap (λ (k : Collecting). k.waiting) is in
-    let room = subst (λ ws. HaveRoom ws (period s.link.params)) (sym waits) had.room in
-    let none = subst (λ ws. HaveWaiting ws s from 0) (sym waits) h.none_waits in
-    let count : length old.waiting ≡ s.link.params.l = ap length waits ∙ had.wait_count in
+    let met : HasCollected (record v.collecting { ends = old.ends }) s from = record {
+      end_count = ends;
+      wait_count = had.wait_count;
+      room = had.room;
+      lead_is = had.lead_is;
+      ahead_is = had.ahead_is;
+      gathered = had.gathered;
+    } in
+    let stays = subst (λ (k : Collecting). HasCollected k s from) (sym is) met in
+    let none = subst (λ ws. HaveWaiting ws s from 0)
+    (sym (ap (λ (k : Collecting). k.waiting) is)) h.none_waits in
+    let count : length old.waiting ≡ length old.ends = stays.wait_count ∙ sym ends in
     let known = knows n (subst (HasRunLanes v s) (sym all) h.ran) in
-    let (waiting, cells) = filled-all old.waiting now.waiting old.ends now.ends s from n filled
-    (count ∙ sym ends) (λ lane w below. (let high = room lane w below in omega arith)) none known in
-    let lead = ap (λ (k : Collecting). k.lead) same ∙ ap (λ (k : Collecting). k.lead) is in
     record {
-      collected = record {
-        end_count = filled.end_count ∙ ends;
-        wait_count = filled.count ∙ count;
-        room = room-filled old.waiting now.waiting old.ends now.ends (period s.link.params) filled
-            (count ∙ sym ends) room;
-        lead_is = lead ∙ had.lead_is;
-        ahead_is = ap (λ (k : Collecting). k.ahead) same
-            ∙ ap (λ (k : Collecting). k.ahead) is ∙ had.ahead_is
-            ∙ ap (λ (k : ℕ). k - gives_in (current (run_of s from))) (sym lead);
-        gathered = subst (λ (k : Gathering). HasGathered k s.link.params
-            (columns_of s (run_of s from)))
-            (sym (ap (λ (k : Collecting). k.gathering) same
-            ∙ ap (λ (k : Collecting). k.gathering) is)) had.gathered;
-      };
-      waiting = waiting;
-      cells = subst (λ (k : ℕ). HaveCells now.ends s k 0) all cells;
+      collected = filled-collected old now s from same filled stays;
+      waiting = filled-waiting old.waiting now.waiting old.ends now.ends s from n m count filled
+          none stays.room short known;
+      cells = subst (λ (k : ℕ). HaveCells now.ends s k 0) all
+          (filled-cells old.waiting now.waiting old.ends now.ends s from n m count filled none
+          stays.room short known);
     }
 
 -- ---- a segment is over

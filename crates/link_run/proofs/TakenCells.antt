@@ -1,87 +1,158 @@
--- Cells that are taken from the ends of the lanes' rings, and wait.
-use Rattle.std.proofs.Common.{◌≡◌, ◌∙◌, ◌<◌, ◌≤◌, ◌+◌, ℕ, zero, suc, List, [], ◌++◌, ◌∷◌, length, get_or, arith, sym, ap, ap₂, append_assoc, append-nil}
+-- The cells that are taken from the ends of the lanes' rings and wait.
+use Rattle.std.proofs.Common.{◌≡◌, ◌∙◌, ◌<◌, ◌≤◌, ◌+◌, ℕ, zero, suc, Bool, List, [], ◌∷◌, ◌++◌, length, get_or, Option, None, Some, if◌then◌else◌, inl, inr, refl, arith, sym, ap, ap₂, subst, append_assoc, append-nil, length-append}
+use Rattle.std.proofs.lemmas.Bool.{cases_Bool, cond-false, cond-true}
 use Rattle.rtrb.specs.Ring.{known_items, received}
 use Rattle.link_params.specs.declared.cells.LaneCell.{LaneCell}
+use Rattle.link_params.specs.Lanes.{LaneKind}
+use Rattle.link_params.specs.Numbers.{period}
+use Rattle.bring_up.specs.Decisions.{is_running}
 use Rattle.scenario.specs.Plans.{Plan}
 use Rattle.lane_threads.specs.declared.cell_end.CellEnd.{CellEnd}
 use Rattle.lane_threads.specs.declared.lane_pair.LanePair.{LanePair}
-use Rattle.link_run.proofs.Carrying.{few-cells}
+use Rattle.lane_threads.specs.Segments.{pushed}
+use Rattle.link_model.specs.Kinds.{kind_of, moment_of, run_of}
+use Rattle.link_model.specs.kept.LaneRuns.{given_by, lane_stepped}
 use Rattle.link_run.specs.Given.{cells_at, cells_in}
+use Rattle.link_run.specs.kept.Collected.{Collecting, HasCollected}
 use Rattle.link_run.specs.kept.Ends.{ArePairs, HasCells, HaveCells}
-use Rattle.link_run.specs.kept.Waits.{AreFilled, HaveRoom, HaveWaiting, IsFilled, Waits, no_waits}
+use Rattle.link_run.specs.kept.Waits.{AreFilled, AreNext, HaveRoom, HaveWaiting, IsFilled, Waits, no_waits}
 
--- the cells of n ticks, and those of the ticks after them
-cells-append : (n : ℕ) (s : Plan) (lane t : ℕ)
-    → cells_in s lane 0 (t + n) ≡ cells_in s lane 0 t ++ cells_in s lane t n
+-- ---- room
+
+pub room-next : (old now : List Waits) (m : ℕ) → AreNext old now → HaveRoom old m
+    → HaveRoom now m
+room-next old now m h room lane w below =
+    let count = h.count in
+    let same = (h.each lane w (omega arith)).same_room in
+    let long = room lane w (omega arith) in
+    omega arith
+
+pub room-filled : (old now : List Waits) (before after : List CellEnd) (m : ℕ)
+    → length old ≡ length before → AreFilled old now before after → HaveRoom old m
+    → HaveRoom now m
+room-filled old now [] after m each h room lane w below =
+    let count = h.count in
+    absurd (omega arith)
+room-filled old now (e ∷ before) after m each h room lane w below =
+    let count = h.count in
+    let same = (h.each lane w e (omega arith)).same_room in
+    let long = room lane w (omega arith) in
+    omega arith
+
+-- ---- how many cells there are
+
+pushed-few : (o : Option LaneCell) → length (pushed o) ≤ 1
+pushed-few None = omega arith
+pushed-few (Some c) = omega arith
+
+cells-at-few : (s : Plan) (lane t : ℕ) → length (cells_at s lane t) ≤ 1
+cells-at-few s lane t =
+    let k : LaneKind = kind_of s.link.params in
+    let o = given_by k s (λ l. lane_stepped k s (run_of s t) l) lane in
+    let b : Bool = is_running (moment_of s (run_of s t)).stage in
+    elim (cases_Bool b) [
+      | inl goes ↦
+          let is = ap length (cond-true b (pushed o) [] goes) in
+          let few = pushed-few o in
+          omega arith
+      | inr halts ↦
+          let is = ap length (cond-false b (pushed o) [] halts) in
+          omega arith
+    ]
+
+-- at most one in each tick
+pub cells-few : (n : ℕ) (s : Plan) (lane t : ℕ) → length (cells_in s lane t n) ≤ n
 unfolding cells_in
-cells-append zero s lane t =
-    let e : t + 0 ≡ t = omega arith in
-    ap (cells_in s lane 0) e ∙ sym (append-nil (cells_in s lane 0 t))
-cells-append (suc n) s lane t =
-    let e : t + suc n ≡ suc (t + n) = omega arith in
-    let z : 0 + (t + n) ≡ t + n = omega arith in
-    ap (cells_in s lane 0) e
-    ∙ ap₂ (λ (xs : List LaneCell) (k : ℕ). xs ++ cells_at s lane k) (cells-append n s lane t) z
-    ∙ append_assoc (cells_in s lane 0 t) (cells_in s lane t n) (cells_at s lane (t + n))
+cells-few zero s lane t = omega arith
+cells-few (suc n) s lane t =
+    let before = cells-few n s lane t in
+    let last = cells-at-few s lane (t + n) in
+    let parts = length-append (cells_in s lane t n) (cells_at s lane (t + n)) in
+    omega arith
 
--- all that an end knew of was taken, where none waited and there is room
-filled-one : (old now : Waits) (before after : CellEnd) (s : Plan) (from n lane : ℕ)
-    → IsFilled old now before after → n ≤ old.room → old.cells ≡ [] → HasCells before s from n lane
+-- those before tick t and those of the n ticks from it on
+pub cells-join : (n : ℕ) (s : Plan) (lane t : ℕ)
+    → cells_in s lane 0 t ++ cells_in s lane t n ≡ cells_in s lane 0 (t + n)
+unfolding cells_in
+cells-join zero s lane t =
+    let z : t ≡ t + 0 = omega arith in
+    append-nil (cells_in s lane 0 t) ∙ ap (cells_in s lane 0) z
+cells-join (suc n) s lane t =
+    let up : suc (t + n) ≡ t + suc n = omega arith in
+    let z : t + n ≡ 0 + (t + n) = omega arith in
+    sym (append_assoc (cells_in s lane 0 t) (cells_in s lane t n) (cells_at s lane (t + n)))
+    ∙ ap₂ (λ (xs ys : List LaneCell). xs ++ ys) (cells-join n s lane t) (ap (cells_at s lane) z)
+    ∙ ap (cells_in s lane 0) up
+
+-- ---- cells that are taken from the ends
+
+filled-one : (old now : Waits) (before after : CellEnd) (s : Plan) (from n m lane : ℕ)
+    → IsFilled old now before after → old.cells ≡ [] → m ≤ old.room → n ≤ m
+    → HasCells before s from n lane
     → (now.cells ≡ cells_in s lane from n) × HasCells after s (from + n) 0 lane
 unfolding cells_in
-filled-one old now before after s from n lane f room none had =
-    let few = few-cells n s lane from in
-    let known = ap length had.known_are in
-    let left = f.all none (omega arith) in
-    let moved : cells_in s lane from n ≡ f.moved =
-    sym had.known_are ∙ f.known_before ∙ ap (λ (xs : List LaneCell). f.moved ++ xs) left
-    ∙ append-nil f.moved in (
-      f.waiting ∙ ap (λ (xs : List LaneCell). xs ++ f.moved) none ∙ sym moved,
+filled-one old now before after s from n m lane f empty room low h =
+    let few = cells-few n s lane from in
+    let known = ap length h.known_are in
+    let none : known_items after.ring ≡ [] = f.all empty (omega arith) in
+    let moved : f.moved ≡ cells_in s lane from n =
+    sym (append-nil f.moved) ∙ ap (λ (xs : List LaneCell). f.moved ++ xs) (sym none)
+    ∙ sym f.known_before ∙ h.known_are in
+    (
+      f.waiting ∙ ap (λ (xs : List LaneCell). xs ++ f.moved) empty ∙ moved,
       record {
         received_are = f.received_too
-            ∙ ap₂ (λ (xs ys : List LaneCell). xs ++ ys) had.received_are (sym moved)
-            ∙ sym (cells-append n s lane from);
-        known_are = left;
+            ∙ ap₂ (λ (xs ys : List LaneCell). xs ++ ys) h.received_are moved
+            ∙ cells-join n s lane from;
+        known_are = none;
       },
     )
 
-some-of : {A : Type 0} (xs : List A) (k : ℕ) → k < length xs → A
-some-of [] k below = absurd (omega arith)
-some-of (x ∷ xs) k below = x
-
-pub filled-all : (old now : List Waits) (before after : List CellEnd) (s : Plan) (from n : ℕ)
-    → AreFilled old now before after → length old ≡ length before → HaveRoom old n
-    → HaveWaiting old s from 0 → HaveCells before s from n
-    → HaveWaiting now s from n × HaveCells after s (from + n) 0
+-- no cell waits where those of no tick do
+pub waits-nothing : (waits : List Waits) (s : Plan) (t : ℕ) → HaveWaiting waits s t 0
+    → (lane : ℕ) (w : Waits) → lane < length waits → (get_or waits lane w).cells ≡ []
 unfolding cells_in
-filled-all old now before after s from n f long room none knows =
+waits-nothing waits s t h lane w below = h lane w below
+
+pub nothing-waits : (waits : List Waits) (s : Plan) (t : ℕ)
+    → ((lane : ℕ) (w : Waits) → lane < length waits → (get_or waits lane w).cells ≡ [])
+    → HaveWaiting waits s t 0
+unfolding cells_in
+nothing-waits waits s t h lane w below = h lane w below
+
+pub none-waits-later : (waits : List Waits) (s : Plan) (t u : ℕ) → HaveWaiting waits s t 0
+    → HaveWaiting waits s u 0
+none-waits-later waits s t u h = nothing-waits waits s u (waits-nothing waits s t h)
+
+-- where no cell waits and there is room for those of m ticks, all those of n ticks are taken
+pub filled-waiting : (old now : List Waits) (before after : List CellEnd) (s : Plan) (from n m : ℕ)
+    → length old ≡ length before → AreFilled old now before after → HaveWaiting old s from 0
+    → HaveRoom old m → n ≤ m → HaveCells before s from n → HaveWaiting now s from n
+filled-waiting old now [] after s from n m same f none room low cells lane w below =
+    let count = f.count in
+    absurd (omega arith)
+filled-waiting old now (e ∷ before) after s from n m same f none room low cells lane w below =
+    let count = f.count in
+    (filled-one (get_or old lane w) (get_or now lane w) (get_or (e ∷ before) lane e)
+    (get_or after lane e) s from n m lane (f.each lane w e (omega arith))
+    (waits-nothing old s from none lane w (omega arith)) (room lane w (omega arith)) low
+    (cells lane e (omega arith))).0
+
+pub filled-cells : (old now : List Waits) (before after : List CellEnd) (s : Plan) (from n m : ℕ)
+    → length old ≡ length before → AreFilled old now before after → HaveWaiting old s from 0
+    → HaveRoom old m → n ≤ m → HaveCells before s from n → HaveCells after s (from + n) 0
+filled-cells old now before after s from n m same f none room low cells lane e below =
     let count = f.count in
     let ends = f.end_count in
-    let each : (lane : ℕ) (w : Waits) (e : CellEnd) → lane < length before
-    → ((get_or now lane w).cells ≡ cells_in s lane from n)
-    × HasCells (get_or after lane e) s (from + n) 0 lane = λ lane w e below.
-    filled-one (get_or old lane w) (get_or now lane w) (get_or before lane e) (get_or after lane e)
-    s from n lane (f.each lane w e below) (room lane w (omega arith)) (none lane w (omega arith))
-    (knows lane e below) in (
-      λ lane w below.
-          let low : lane < length before = omega arith in
-          (each lane w (some-of before lane low) low).0,
-      λ lane e below. (each lane no_waits e (omega arith)).1,
-    )
-
-pub room-filled : (old now : List Waits) (before after : List CellEnd) (m : ℕ)
-    → AreFilled old now before after → length old ≡ length before → HaveRoom old m → HaveRoom now m
-room-filled old now before after m f long room lane w below =
-    let count = f.count in
-    let low : lane < length before = omega arith in
-    let same = (f.each lane w (some-of before lane low) low).same_room in
-    let high = room lane w (omega arith) in
-    omega arith
+    (filled-one (get_or old lane no_waits) (get_or now lane no_waits) (get_or before lane e)
+    (get_or after lane e) s from n m lane (f.each lane no_waits e (omega arith))
+    (waits-nothing old s from none lane no_waits (omega arith))
+    (room lane no_waits (omega arith)) low (cells lane e (omega arith))).1
 
 -- the lanes and the ends stay pairs
-pub pairs-filled : (lanes : List LanePair) (old now : List Waits) (before after : List CellEnd)
+pub filled-pairs : (lanes : List LanePair) (old now : List Waits) (before after : List CellEnd)
     → AreFilled old now before after → ArePairs lanes before → ArePairs lanes after
-pairs-filled lanes old now before after f pairs = record {
+filled-pairs lanes old now before after f pairs = record {
   count = f.end_count ∙ pairs.count;
   each = λ lane d e below.
       let count = pairs.count in
@@ -89,3 +160,21 @@ pairs-filled lanes old now before after f pairs = record {
       let pair = pairs.each lane d e below in
       (r.0 ∙ pair.0, r.1 ∙ pair.1, r.2 ∙ pair.2, r.3 ∙ pair.3);
 }
+
+-- what was collected stays so, where cells are taken from the ends
+pub filled-collected : (old now : Collecting) (s : Plan) (t : ℕ)
+    → now ≡ record old { ends = now.ends; waiting = now.waiting }
+    → AreFilled old.waiting now.waiting old.ends now.ends → HasCollected old s t
+    → HasCollected now s t
+filled-collected old now s t is f h =
+    let m = period s.link.params in
+    let same : length old.waiting ≡ length old.ends = h.wait_count ∙ sym h.end_count in
+    let stays : HasCollected (record old { ends = now.ends; waiting = now.waiting }) s t = record {
+      end_count = f.end_count ∙ h.end_count;
+      wait_count = f.count ∙ h.wait_count;
+      room = room-filled old.waiting now.waiting old.ends now.ends m same f h.room;
+      lead_is = h.lead_is;
+      ahead_is = h.ahead_is;
+      gathered = h.gathered;
+    } in
+    subst (λ (v : Collecting). HasCollected v s t) (sym is) stays
