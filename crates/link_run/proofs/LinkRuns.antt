@@ -30,7 +30,7 @@ use Rattle.link_run.specs.kept.Collected.{Collecting, HasCollected, IsLegalLink}
 use Rattle.link_run.specs.kept.Ends.{ArePairs, HaveCells}
 use Rattle.link_run.specs.kept.Happened.{are_past}
 use Rattle.link_run.specs.kept.LaneRuns.{AreAt, AreOnRings, AreSameLanes, HaveRings, HaveRunLanes, KeepRings}
-use Rattle.link_run.specs.kept.LinkStates.{HasCarriedOn, HasEnded, HasFinished, HasHappened, HasNext, HasReportedBefore, HasRun, HasRunLanes, IsBefore, IsSized, LinkView, WasPlanned}
+use Rattle.link_run.specs.kept.LinkStates.{HasAllTaken, HasCarriedOn, HasEnded, HasFinished, HasHappened, HasNext, HasReportedBefore, HasRun, HasRunLanes, HasRunWhole, IsBefore, IsOver, IsSized, LinkView, WasPlanned}
 use Rattle.link_run.specs.kept.ReceiverRuns.{HasReceivedRun, IsEnded, RxEnd}
 use Rattle.link_run.specs.kept.Segments.{CanGive, FollowOn, HasPlanned, HasSteps, IsCarried, IsOneSegment, IsPlanned, Planned, Planning, StandAt}
 use Rattle.link_run.specs.kept.Sendings.{next_of}
@@ -479,6 +479,43 @@ has-finished old now s from t ran last before taken = record {
     collected = taken.collected;
     waiting = taken.waiting;
   };
+}
+
+-- ---- the rows of the ticks that are due were handed on
+
+-- nothing but what is collected has changed, and the ends have not
+pub record IsReported (old now : LinkView) : Type 0 where
+  pub same : now ≡ record old { collecting = now.collecting }
+  pub ends : now.collecting.ends ≡ old.collecting.ends
+
+ran-reported : (old now : LinkView) (s : Plan) (t : ℕ) → IsReported old now → HasRunLanes old s t
+    → HasRunLanes now s t
+ran-reported old now s t r h =
+    subst (λ (v : LinkView). HasRunLanes v s t) (sym r.same)
+    (has-met old old.lanes now.collecting s t h
+    (subst (ArePairs old.lanes) (sym r.ends) h.sized.pairs) (λ runs had. had)
+    (λ given held had. had) (λ p next had. had))
+
+cells-reported : (old now : LinkView) (s : Plan) (t : ℕ) → IsReported old now
+    → HaveCells old.collecting.ends s t 0 → HaveCells now.collecting.ends s t 0
+cells-reported old now s t r cells =
+    subst (λ (ends : List CellEnd). HaveCells ends s t 0) (sym r.ends) cells
+
+pub reported-before : (old now : LinkView) (s : Plan) (from t m : ℕ) → IsReported old now
+    → HasNext old s from t m → HasAllTaken now s t → HasReportedBefore now s t m
+reported-before old now s from t m r h taken = record {
+  ran = ran-reported old now s (t + suc m) r h.ran;
+  over = subst (λ (e : Ended). IsOver e s t m) (sym (ap (λ (v : LinkView). v.latest) r.same)) h.over;
+  cells = cells-reported old now s t r h.cells;
+  taken = taken;
+}
+
+pub run-whole : (old now : LinkView) (s : Plan) (from t : ℕ) → IsReported old now
+    → HasFinished old s from t → t ≡ s.ticks → HasRunWhole now s
+run-whole old now s from t r h all = record {
+  ran = subst (HasRunLanes now s) all (ran-reported old now s t r h.ran);
+  cells = subst (λ (n : ℕ). HaveCells now.collecting.ends s n 0) all
+      (cells-reported old now s t r h.cells);
 }
 
 -- ---- before the first tick

@@ -1,5 +1,5 @@
 //! Both ends of a link, and the lanes between them.
-ghost use Rattle.std.specs.Prelude.{◌≡◌, ◌≤◌, ◌<◌, ◌==◌, ◌+◌, ◌*◌, [], ℕ, suc, length, fold, map, max, if◌then◌else◌, Option, None, Some, All, IfOk, IfSome};
+ghost use Rattle.std.specs.Prelude.{◌≡◌, ◌≤◌, ◌<◌, ◌==◌, ◌+◌, ◌*◌, ◌^◌, [], ℕ, suc, length, fold, map, max, if◌then◌else◌, Option, None, Some, All, IfOk, IfSome};
 ghost use Rattle.link_params.specs.declared.fields.Params.{Params as ParamsValue};
 ghost use Rattle.scenario.specs.Plans.{Plan, plan_of};
 ghost use Rattle.link_model.specs.Kinds.{run_of};
@@ -189,8 +189,8 @@ impl LinkState {
         }
     }
 
-    /// Takes what the lanes gave in tick `i` of the segment whose rows are due; the ticks before it were
-    /// taken.
+    /// Takes what the lanes gave in tick `i` of the segment whose rows are due; the ticks before it
+    /// were taken.
     pub fn collect(&mut self, i: usize) -> Ticked
         requires inside { i < length self.old.last.segment.steps }
         requires has { (s : Plan) × (t : ℕ) × (m : ℕ) × HasSegment self.old s t m i }
@@ -202,6 +202,7 @@ impl LinkState {
             × (self.new.collecting.gathering.at ≤ 256) }
         ensures place { IfSome result.place (λ x. x < 1024) }
         ensures same { self.new ≡ record self.old { collecting = self.new.collecting } }
+        ensures ends { self.new.collecting.ends ≡ self.old.collecting.ends }
     {
         let _shape = self.link.shape();
         let _timing = self.link.timing();

@@ -80,7 +80,8 @@ taken-then : (g : Over) (c : After-carry g) (s : Plan) (from : ℕ) → plan_of 
 taken-then g c s from is ready had =
     let old : LinkView = c.args.self.now in
     let happened = c.happen-happened.ensures s is in
-    let same = ap (λ (v : LinkView). v.collecting) (c.self-2.view_is ∙ happened.same) in
+    let same = ap (λ (v : LinkView). v.collecting) c.self-2.view_is
+    ∙ ap (λ (v : LinkView). v.collecting) happened.same in
     has-taken old c.self-2.inside.collector c.carry.new.side s from c.args.t had
     (ready.sized.pairs.count ∙ ready.lanes.0)
     (λ n ran. subst (λ (k : Collecting). HaveCells k.ends s from n) (sym same)
@@ -202,8 +203,9 @@ returns-clause-ran g c = λ s from is had.
     let on = on-then g before.After-carry s m ready planned carried in
     let happened = c.happen-happened.ensures s is in
     let size = c.len-count.ensures in
-    let last = ap (λ (v : LinkView). v.last)
-    (c.self-2.view_is ∙ happened.same) ∙ ap (λ (v : LinkView). v.last) c.meet.ensures.same in (
+    let last = ap (λ (v : LinkView). v.last) c.self-2.view_is
+    ∙ ap (λ (v : LinkView). v.last) happened.same
+    ∙ ap (λ (v : LinkView). v.last) c.meet.ensures.same in (
       m,
       omega arith,
       has-next
@@ -249,5 +251,6 @@ returns-clause-same g c =
     let (s, is) = plan-there c.args.s.now c.args.self.now.link c.requires.link in
     let happened = c.happen-happened.ensures s is in
     ap (λ (x : LinkView). x.link) c.end.ensures.same
-    ∙ ap (λ (x : LinkView). x.link) (c.self-2.view_is ∙ happened.same)
+    ∙ ap (λ (x : LinkView). x.link) c.self-2.view_is
+    ∙ ap (λ (x : LinkView). x.link) happened.same
     ∙ ap (λ (x : LinkView). x.link) c.meet.ensures.same
