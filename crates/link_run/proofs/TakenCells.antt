@@ -1,8 +1,8 @@
 -- The cells that are taken from the ends of the lanes' rings and wait.
-use Rattle.std.proofs.Common.{◌≡◌, ◌∙◌, ◌<◌, ◌≤◌, ◌+◌, ℕ, zero, suc, Bool, List, [], ◌∷◌, ◌++◌, length, get_or, Option, None, Some, if◌then◌else◌, inl, inr, refl, arith, sym, ap, ap₂, subst, append_assoc, append-nil, length-append, replicate}
+use Rattle.std.proofs.Common.{◌≡◌, ◌∙◌, ◌<◌, ◌≤◌, ◌+◌, ℕ, zero, suc, Bool, List, [], ◌∷◌, ◌++◌, length, get_or, Option, None, Some, inl, inr, arith, sym, ap, ap₂, subst, append_assoc, append-nil, length-append, replicate}
 use Rattle.std.proofs.lemmas.Bool.{cases_Bool, cond-false, cond-true}
 use Rattle.std.proofs.lemmas.List.{get_or-replicate, length-replicate}
-use Rattle.rtrb.specs.Ring.{known_items, received}
+use Rattle.rtrb.specs.Ring.{known_items}
 use Rattle.link_params.specs.declared.cells.LaneCell.{LaneCell}
 use Rattle.link_params.specs.Lanes.{LaneKind}
 use Rattle.link_params.specs.Numbers.{period}
@@ -98,8 +98,7 @@ filled-one old now before after s from n m lane f empty room low h =
     let none : known_items after.ring ≡ [] = f.all empty (omega arith) in
     let moved : f.moved ≡ cells_in s lane from n =
     sym (append-nil f.moved) ∙ ap (λ (xs : List LaneCell). f.moved ++ xs) (sym none)
-    ∙ sym f.known_before ∙ h.known_are in
-    (
+    ∙ sym f.known_before ∙ h.known_are in (
       f.waiting ∙ ap (λ (xs : List LaneCell). xs ++ f.moved) empty ∙ moved,
       record {
         received_are = f.received_too

@@ -16,8 +16,7 @@ returns c =
     let old_waits : c.as_mut_slice.result.now ≡ c.args.self.now.waiting =
     c.as_mut_slice.ensures.value ∙ ap (λ (v : Collecting). v.waiting) c.self.view_is in
     let old_ends : c.as_mut_slice-2.result.now ≡ c.args.self.now.ends =
-    c.as_mut_slice-2.ensures.value ∙ ap (λ (v : Collecting). v.ends) c.self.view_is in
-    (
+    c.as_mut_slice-2.ensures.value ∙ ap (λ (v : Collecting). v.ends) c.self.view_is in (
       ap (λ (v : Collecting). record {
         ends = (with_items c.self.inside.ends c.fill_each.new.ends).items;
         waiting = (with_items c.self.inside.waiting c.fill_each.new.waiting).items;
