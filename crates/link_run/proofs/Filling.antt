@@ -118,9 +118,14 @@ are-filling-more old now before after n y d b e below inside is h =
     let here : (w : Waits) (f : CellEnd)
     → IsFilled (get_or old n w) (get_or (set now n y) n w) (get_or before n f)
     (get_or (set after n b) n f) =
-    λ w f. rw (get_or-set_same now n y w below, get_or-set_same after n b f inside,
-    ← h.waits_stood n w (omega arith), ← h.ends_stood n f (omega arith),
-    get_or_default now n w d below, get_or_default after n f e inside) is in
+    λ w f. rw (
+      get_or-set_same now n y w below,
+      get_or-set_same after n b f inside,
+      ← h.waits_stood n w (omega arith),
+      ← h.ends_stood n f (omega arith),
+      get_or_default now n w d below,
+      get_or_default after n f e inside,
+    ) is in
     record {
       count = length-set now n y ∙ h.count;
       end_count = length-set after n b ∙ h.end_count;

@@ -1,7 +1,8 @@
 -- The cells that are taken from the ends of the lanes' rings and wait.
-use Rattle.std.proofs.Common.{◌≡◌, ◌∙◌, ◌<◌, ◌≤◌, ◌+◌, ℕ, zero, suc, Bool, List, [], ◌∷◌, ◌++◌, length, get_or, Option, None, Some, if◌then◌else◌, inl, inr, refl, arith, sym, ap, ap₂, subst, append_assoc, append-nil, length-append}
+use Rattle.std.proofs.Common.{◌≡◌, ◌∙◌, ◌<◌, ◌≤◌, ◌+◌, ℕ, zero, suc, Bool, List, [], ◌∷◌, ◌++◌, length, get_or, Option, None, Some, inl, inr, arith, sym, ap, ap₂, subst, append_assoc, append-nil, length-append, replicate}
 use Rattle.std.proofs.lemmas.Bool.{cases_Bool, cond-false, cond-true}
-use Rattle.rtrb.specs.Ring.{known_items, received}
+use Rattle.std.proofs.lemmas.List.{get_or-replicate, length-replicate}
+use Rattle.rtrb.specs.Ring.{known_items}
 use Rattle.link_params.specs.declared.cells.LaneCell.{LaneCell}
 use Rattle.link_params.specs.Lanes.{LaneKind}
 use Rattle.link_params.specs.Numbers.{period}
@@ -97,8 +98,7 @@ filled-one old now before after s from n m lane f empty room low h =
     let none : known_items after.ring ≡ [] = f.all empty (omega arith) in
     let moved : f.moved ≡ cells_in s lane from n =
     sym (append-nil f.moved) ∙ ap (λ (xs : List LaneCell). f.moved ++ xs) (sym none)
-    ∙ sym f.known_before ∙ h.known_are in
-    (
+    ∙ sym f.known_before ∙ h.known_are in (
       f.waiting ∙ ap (λ (xs : List LaneCell). xs ++ f.moved) empty ∙ moved,
       record {
         received_are = f.received_too
@@ -123,6 +123,28 @@ nothing-waits waits s t h lane w below = h lane w below
 pub none-waits-later : (waits : List Waits) (s : Plan) (t u : ℕ) → HaveWaiting waits s t 0
     → HaveWaiting waits s u 0
 none-waits-later waits s t u h = nothing-waits waits s u (waits-nothing waits s t h)
+
+-- lanes of which none waits, in room for m ticks' cells
+abbrev pub empty_room : ℕ → Waits
+empty_room m = record { cells = []; room = m }
+
+pub empty-waits : (waits : List Waits) (n m : ℕ) → waits ≡ replicate n (empty_room m)
+    → (s : Plan) (t : ℕ) → HaveWaiting waits s t 0
+empty-waits waits n m is s t = nothing-waits waits s t (λ lane w below.
+    let long = ap length is in
+    let count = length-replicate n (empty_room m) in
+    ap (λ (xs : List Waits). (get_or xs lane w).cells) is
+    ∙ ap (λ (x : Waits). x.cells) (get_or-replicate n lane (empty_room m) w (omega arith)))
+
+pub empty-has-room : (waits : List Waits) (n m : ℕ) → waits ≡ replicate n (empty_room m)
+    → HaveRoom waits m
+empty-has-room waits n m is lane w below =
+    let long = ap length is in
+    let count = length-replicate n (empty_room m) in
+    let same : (get_or waits lane w).room ≡ m =
+    ap (λ (xs : List Waits). (get_or xs lane w).room) is
+    ∙ ap (λ (x : Waits). x.room) (get_or-replicate n lane (empty_room m) w (omega arith)) in
+    omega arith
 
 -- where no cell waits and there is room for those of m ticks, all those of n ticks are taken
 pub filled-waiting : (old now : List Waits) (before after : List CellEnd) (s : Plan) (from n m : ℕ)

@@ -155,9 +155,17 @@ impl Side for Collector {
         × AreFilled a.waiting b.waiting a.ends b.ends };
 
     fn run(&mut self) {
-        for (lane, end) in self.ends.iter_mut().enumerate() {
-            self.waiting[lane].fill(end);
-        }
+        fill_each(self.waiting.as_mut_slice(), self.ends.as_mut_slice());
+    }
+}
+
+// Takes the cells that are known to be at the end of each lane's ring.
+fn fill_each(waiting: &mut [Waiting], ends: &mut [CellEnd])
+    requires count { length waiting.old ≡ length ends.old }
+    ensures { AreFilled waiting.old waiting.new ends.old ends.new }
+{
+    for (lane, end) in ends.iter_mut().enumerate() {
+        waiting[lane].fill(end);
     }
 }
 

@@ -14,8 +14,8 @@ use Rattle.lane_threads.specs.declared.cell_end.CellEnd.{CellEnd}
 use Rattle.link_run.specs.kept.Gathered.{Gathering, HasGathered, Whole, delivered_of}
 use Rattle.link_run.specs.kept.Waits.{HaveRoom, HaveWaiting, Waits}
 
--- the ends, the cells that wait, how many entries of a session are places of the alignment sequence, how many of them
--- are still to come, and the frame that is gathered
+-- the ends, the cells that wait, how many entries of a session are places of the alignment
+-- sequence, how many of them are still to come, and the frame that is gathered
 pub record Collecting : Type 0 where
   pub ends : List CellEnd
   pub waiting : List Waits

@@ -1,8 +1,7 @@
 -- What the ends of the lanes' rings received and know of.
 -- Code: a list of ends.
-use Rattle.std.specs.Prelude.{◌≡◌, ◌<◌, ℕ, List, [], ◌∷◌, ◌++◌, length, get_or, Option, None, Some}
-use Rattle.rtrb.specs.Ring.{SameConsumer, known_items, received}
-use Rattle.link_params.specs.declared.cells.LaneCell.{LaneCell}
+use Rattle.std.specs.Prelude.{◌≡◌, ◌<◌, ℕ, List, length, get_or}
+use Rattle.rtrb.specs.Ring.{known_items, received}
 use Rattle.scenario.specs.Plans.{Plan}
 use Rattle.lane_threads.specs.declared.cell_end.CellEnd.{CellEnd}
 use Rattle.lane_threads.specs.declared.lane_pair.LanePair.{LanePair}
@@ -24,4 +23,3 @@ pub record HasCells (end : CellEnd) (s : Plan) (t n lane : ℕ) : Type 0 where
 abbrev pub HaveCells : List CellEnd → Plan → ℕ → ℕ → Type 0
 HaveCells ends s t n = (lane : ℕ) (e : CellEnd) → lane < length ends
     → HasCells (get_or ends lane e) s t n lane
-

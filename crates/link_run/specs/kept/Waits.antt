@@ -15,8 +15,8 @@ pub record Waits : Type 0 where
 abbrev pub no_waits : Waits
 no_waits = record { cells = []; room = 0 }
 
--- the first ones of the cells that were known to be at an end were taken from it: all of them, where
--- none waited and there is room
+-- the first ones of the cells that were known to be at an end were taken from it: all of them,
+-- where none waited and there is room
 pub record IsFilled (old now : Waits) (before after : CellEnd) : Type 0 where
   pub moved : List LaneCell
   pub known_before : known_items before.ring ≡ moved ++ known_items after.ring

@@ -1,4 +1,4 @@
-use Rattle.std.proofs.Common.{◌≡◌, ◌<◌, ◌≤◌, ◌∙◌, [], ◌∷◌, length, drop, refl, sym, ap, arith, length-append, length-drop}
+use Rattle.std.proofs.Common.{◌≡◌, ◌∙◌, [], ◌∷◌, length, drop, refl, sym, ap, arith, length-append, length-drop}
 use Rattle.link_run.specs.kept.Waits.{Waits}
 use Rattle.link_run.proofs.Filling.{filled, filling-more, filling-none, none-long}
 use Rattle.link_run.proofs.waiting.Waiting.fill.Goals.{then-self-len, else-self-len}
@@ -50,7 +50,8 @@ loop-self-preserved c =
       within = (let long = ap length items in
           let joined = length-append c.loop-self.self-inside.cells.items (c.pop.result ∷ []) in
           omega arith);
-      capacity = (let same = c.push_reserved.ensures.capacity in let fits = h.capacity in omega arith);
+      capacity = (let same = c.push_reserved.ensures.capacity in let fits = h.capacity in
+          omega arith);
       room = h.room;
     }
 
