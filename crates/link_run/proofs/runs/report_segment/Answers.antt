@@ -44,7 +44,7 @@ segment-then : (g : Over) (c : In-loop-i g) (plan : Plan) → plan_of c.args.s.n
 segment-then g c plan is =
     let n = length c.args.state.now.last.segment.steps in
     let below = c.loop-i-test.true in
-    let due = c.due.ensures in
+    let due = c.due-i-end.ensures in
     let (m, end, h) = part-segment c.loop-i.state plan c.args.from (c.args.from + n) c.loop-i.i
     (c.loop-i.invariant.stands plan is) (omega arith) in
     (m, omega arith, h)
@@ -52,7 +52,7 @@ segment-then g c plan is =
 pub collect-seen-requires-clause-inside : goal.collect-seen-requires-clause-inside
 collect-seen-requires-clause-inside g c =
     let same = ap (λ (v : LinkView). length v.last.segment.steps) c.loop-i.invariant.same.same in
-    let due = c.due.ensures in
+    let due = c.due-i-end.ensures in
     let below = c.loop-i-test.true in
     omega arith
 
@@ -67,7 +67,7 @@ pub alarms-alarms-requires : goal.alarms-alarms-requires
 alarms-alarms-requires g c =
     let same = ap (λ (v : LinkView). length v.last.segment.steps) c.loop-i.invariant.same.same in
     let taken = ap (λ (v : LinkView). length v.last.segment.steps) c.collect-seen.ensures.same in
-    let due = c.due.ensures in
+    let due = c.due-i-end.ensures in
     let below = c.loop-i-test.true in
     omega arith
 
@@ -84,7 +84,7 @@ report_tick-requires-clause-frames g c =
     let (m, count, h) = segment-then g
     (goal.at.report_tick-requires-clause-frames g c).In-loop-i plan is in
     let below = c.loop-i-test.true in
-    let due = c.due.ensures in
+    let due = c.due-i-end.ensures in
     let within : c.loop-i.i ≤ m = omega arith in
     let on = c.collect-seen.ensures.goes_on plan c.args.from m h within in
     ap (λ (d : Gathering). d.params) c.delivered-frames.ensures
@@ -101,7 +101,7 @@ returns-in_err-report_tick-clause-handed g c = λ plan start is handed.
     let short = c.args.report.now.short in
     let below = c.loop-i-test.true in
     let had = c.loop-i.invariant in
-    let due = c.due.ensures in
+    let due = c.due-i-end.ensures in
     let (m, count, h) = segment-then g (goal.at.returns-in_err-report_tick-clause-handed g c).In-loop-i plan is in
     let within : i ≤ m = omega arith in
     let before : History = run_of plan (t + i) in
@@ -137,7 +137,7 @@ loop-i-preserved g c =
     let below = c.loop-i-test.true in
     let had = c.loop-i.invariant in
     let before-it = goal.at.loop-i-preserved g c in
-    let due = c.due.ensures in
+    let due = c.due-i-end.ensures in
     let end = t + length c.args.state.now.last.segment.steps in
     let now : LinkView = c.collect-seen.new.self in
     let more = c.in_ok-report_tick.ensures in
@@ -200,7 +200,7 @@ pub returns-clause-collected : goal.returns-clause-collected
 returns-clause-collected g c = λ plan is.
     let past = c.loop-i-test.false in
     let end = c.loop-i.auto.i-end in
-    let due = c.due.ensures in
+    let due = c.due-i-end.ensures in
     part-all c.loop-i.state plan c.args.from _ c.loop-i.i (c.loop-i.invariant.stands plan is)
     (omega arith)
 
@@ -208,7 +208,7 @@ pub returns-clause-handed : goal.returns-clause-handed
 returns-clause-handed g c = λ plan start is handed.
     let past = c.loop-i-test.false in
     let end = c.loop-i.auto.i-end in
-    let due = c.due.ensures in
+    let due = c.due-i-end.ensures in
     let all : c.loop-i.i ≡ length c.args.state.now.last.segment.steps = omega arith in
     handed-same {whole = true} _ _ (ap (λ (n : ℕ). handed_so_far c.args.report.now.short plan
     (run_of plan (c.args.from + n))) all) (c.loop-i.invariant.handed plan start is handed)
@@ -217,7 +217,7 @@ pub returns-clause-reported : goal.returns-clause-reported
 returns-clause-reported g c = λ plan is.
     let past = c.loop-i-test.false in
     let end = c.loop-i.auto.i-end in
-    let due = c.due.ensures in
+    let due = c.due-i-end.ensures in
     let all : c.loop-i.i ≡ length c.args.state.now.last.segment.steps = omega arith in
     subst (λ (n : ℕ). HasReported c.loop-i.report plan (run_of plan (c.args.from + n))) all
     (c.loop-i.invariant.reported plan is)
@@ -226,7 +226,7 @@ pub returns-clause-few : goal.returns-clause-few
 returns-clause-few g c =
     let past = c.loop-i-test.false in
     let end = c.loop-i.auto.i-end in
-    let due = c.due.ensures in
+    let due = c.due-i-end.ensures in
     let all : c.loop-i.i ≡ length c.args.state.now.last.segment.steps = omega arith in
     subst (λ (n : ℕ). AreFew c.loop-i.report.totals (c.args.from + n)) all c.loop-i.invariant.few
 
