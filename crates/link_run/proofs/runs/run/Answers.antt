@@ -196,25 +196,25 @@ last-then : (g : Over) (c : After-finish g) (plan : Plan) → plan_of c.args.s.n
 last-then g c plan is =
     due-count c.finish.new.self plan c.loop-t.from c.loop-t.t (finished-then g c plan is).due.before
 
-pub report_segment-2-requires-clause-ticks : goal.report_segment-2-requires-clause-ticks
-report_segment-2-requires-clause-ticks g c =
+pub report_segment-requires-2-clause-ticks : goal.report_segment-requires-2-clause-ticks
+report_segment-requires-2-clause-ticks g c =
     let (plan, is) = plan-there c.args.s.now c.loop-t.state.link c.loop-t.invariant.link in
-    let due = last-then g (goal.at.report_segment-2-requires-clause-ticks g c).After-finish plan is in
+    let due = last-then g (goal.at.report_segment-requires-2-clause-ticks g c).After-finish plan is in
     let within = c.loop-t.invariant.within in
     omega arith
 
-pub report_segment-2-requires-clause-link : goal.report_segment-2-requires-clause-link
-report_segment-2-requires-clause-link g c =
+pub report_segment-requires-2-clause-link : goal.report_segment-requires-2-clause-link
+report_segment-requires-2-clause-link g c =
     c.loop-t.invariant.link ∙ ap Some (sym c.finish.ensures.same)
 
-pub report_segment-2-requires-clause-due : goal.report_segment-2-requires-clause-due
-report_segment-2-requires-clause-due g c = λ plan is.
-    let before = (goal.at.report_segment-2-requires-clause-due g c).After-finish in
+pub report_segment-requires-2-clause-due : goal.report_segment-requires-2-clause-due
+report_segment-requires-2-clause-due g c = λ plan is.
+    let before = (goal.at.report_segment-requires-2-clause-due g c).After-finish in
     subst (HasDue c.finish.new.self plan c.loop-t.from) (last-then g before plan is)
     (finished-then g before plan is).due
 
-pub report_segment-2-requires-clause-shape : goal.report_segment-2-requires-clause-shape
-report_segment-2-requires-clause-shape g c = λ p is.
+pub report_segment-requires-2-clause-shape : goal.report_segment-requires-2-clause-shape
+report_segment-requires-2-clause-shape g c = λ p is.
     let (plan, there) = plan-there c.args.s.now c.loop-t.state.link c.loop-t.invariant.link in
     c.requires.shape p (sym (c.loop-t.invariant.handed plan there).same_shape ∙ is)
     ∙ c.requires.same ∙ sym c.loop-t.invariant.params.0
@@ -239,13 +239,15 @@ returns-in_err-report_segment-2-clause-handed g c = λ plan is.
     (handed-same {whole = true} _ _ same (had.handed plan is))))))
 
 -- the rows of its last segment were handed on
-handed-then-all : (g : Over) (c : After-totals-totals g) (plan : Plan) → plan_of c.args.s.now ≡ Some plan
+handed-then-all : (g : Over) (c : After-totals-totals g) (plan : Plan)
+    → plan_of c.args.s.now ≡ Some plan
+    → c.loop-t.t ≡ c.loop-t.from + length c.finish.new.self.last.segment.steps
     → WasHanded g.row.W.Denot g.W.Rows.Took g.W.Rows.shape g.W.Rows.faults c.args.rows.now
-    c.report_segment-2.new.rows true (handed_so_far c.args.report.now.short plan (run_of plan c.loop-t.t))
-handed-then-all g c plan is =
+    c.report_segment-2.new.rows true
+    (handed_so_far c.args.report.now.short plan (run_of plan c.loop-t.t))
+handed-then-all g c plan is due =
     let had = c.loop-t.invariant in
     let short = c.args.report.now.short in
-    let due = last-then g c.before.After-finish plan is in
     let same = ap (λ b. handed_so_far b plan (run_of plan c.loop-t.from)) (sym had.params.1) in
     let end = ap (λ (n : ℕ). handed_so_far c.loop-t.report.short plan (run_of plan n)) (sym due) in
     handed-same {whole = true} _ _
@@ -255,12 +257,13 @@ handed-then-all g c plan is =
 
 -- the counts, with the most entries that lanes held
 totals-then : (g : Over) (c : After-totals-totals g) (plan : Plan) → plan_of c.args.s.now ≡ Some plan
+    → c.loop-t.t ≡ c.loop-t.from + length c.finish.new.self.last.segment.steps
+    → HasFinished c.finish.new.self plan c.loop-t.from c.loop-t.t → c.loop-t.t ≡ plan.ticks
     → c.totals-totals.result ≡ totals plan (run_of plan plan.ticks)
 unfolding totals
-totals-then g c plan is =
+totals-then g c plan is due over all =
     let more = c.in_ok-report_segment-2.ensures in
-    let due = last-then g c.before.After-finish plan is in
-    let ran = (finished-then g c.before.After-finish plan is).ran in
+    let ran = over.ran in
     let lanes = ap (λ (v : LinkView). v.lanes) more.same in
     let reported = subst (λ (n : ℕ). HasReported c.report_segment-2.new.report plan (run_of plan n))
     (sym due) (more.reported plan is) in
@@ -270,11 +273,13 @@ totals-then g c plan is =
     (c.fullest.ensures
     ∙ ap (λ (xs : List LanePair). fold max 0 (map (λ (x : LanePair). x.fullest) xs)) lanes
     ∙ fullest-is c.finish.new.self.lanes plan c.loop-t.t c.loop-t.t ran.lanes.0 ran.rings)
-    ∙ ap (λ t. totals plan (run_of plan t)) (all-then g c.before.After-finish plan is)
+    ∙ ap (λ t. totals plan (run_of plan t)) all
 
 pub returns-clause-totals : goal.returns-clause-totals
 returns-clause-totals g c = λ plan is.
-    totals-then g (goal.at.returns-clause-totals g c).After-totals-totals plan is
+    let before = goal.at.returns-clause-totals g c in
+    totals-then g before.After-totals-totals plan is (last-then g before.After-finish plan is)
+    (finished-then g before.After-finish plan is) (all-then g before.After-finish plan is)
 
 pub returns-clause-ran : goal.returns-clause-ran
 returns-clause-ran g c = λ plan is.
@@ -293,8 +298,10 @@ pub returns-in_err-row-3-clause-handed : goal.returns-in_err-row-3-clause-handed
 returns-in_err-row-3-clause-handed g c = λ plan is.
     let before = goal.at.returns-in_err-row-3-clause-handed g c in
     let short = c.args.report.now.short in
-    let counts = totals-then g before.After-totals-totals plan is in
+    let due = last-then g before.After-finish plan is in
     let at = all-then g before.After-finish plan is in
+    let counts = totals-then g before.After-totals-totals plan is due
+    (finished-then g before.After-finish plan is) at in
     handed-failed c.from_residual-in_err-row-3.result c.from_residual-in_err-row-3.ensures.0
     (handed-same {whole = false} _ _
     (ap₂ (λ (k : ℕ) (n : Totals). handed_so_far short plan (run_of plan k)
@@ -302,7 +309,7 @@ returns-in_err-row-3-clause-handed g c = λ plan is.
     ∙ all-handed short plan)
     (handed-then _ _ _ false (handed_so_far short plan (run_of plan c.loop-t.t))
     (bare (row.End c.totals-totals.result) ∷ [])
-    (handed-then-all g before.After-totals-totals plan is)
+    (handed-then-all g before.After-totals-totals plan is due)
     (handed-err c.row-3.result _ c.in_err-row-3.was
     (handed-row _ _ (bare (row.End c.totals-totals.result)) c.row-3.result c.row-3.ensures.took
     c.row-3.ensures.nothing c.row-3.ensures.failed c.row-3.ensures.count c.row-3.ensures.shape))))
@@ -311,15 +318,17 @@ pub returns-clause-handed : goal.returns-clause-handed
 returns-clause-handed g c = λ plan is.
     let before = goal.at.returns-clause-handed g c in
     let short = c.args.report.now.short in
-    let counts = totals-then g before.After-totals-totals plan is in
+    let due = last-then g before.After-finish plan is in
     let at = all-then g before.After-finish plan is in
+    let counts = totals-then g before.After-totals-totals plan is due
+    (finished-then g before.After-finish plan is) at in
     handed-same {whole = true} _ _
     (ap₂ (λ (k : ℕ) (n : Totals). handed_so_far short plan (run_of plan k)
     ++ bare (row.End n) ∷ []) at counts
     ∙ all-handed short plan)
     (handed-then _ _ _ true (handed_so_far short plan (run_of plan c.loop-t.t))
     (bare (row.End c.totals-totals.result) ∷ [])
-    (handed-then-all g before.After-totals-totals plan is)
+    (handed-then-all g before.After-totals-totals plan is due)
     (handed-ok c.row-3.result _ c.in_ok-row-3.was
     (handed-row _ _ (bare (row.End c.totals-totals.result)) c.row-3.result c.row-3.ensures.took
     c.row-3.ensures.nothing c.row-3.ensures.failed c.row-3.ensures.count c.row-3.ensures.shape)))
