@@ -2,17 +2,14 @@
 use Rattle.std.proofs.Common.{◌≡◌, ◌≢◌, ◌∙◌, ◌<◌, ◌≤◌, ◌+◌, ◌-◌, ◌*◌, ℕ, zero, suc, Bool, true, false, List, [], ◌∷◌, ◌++◌, map, length, get_or, set, if◌then◌else◌, Option, Some, inl, inr, arith, refl, sym, ap, ap₂, subst, append_assoc, append-nil, length-set}
 use Rattle.std.proofs.lemmas.Bool.{cases_Bool, cases_lt, cond-false, cond-true}
 use Rattle.std.proofs.lemmas.List.{get_or-set_same, get_or-set_other, get_or_default}
-use Rattle.rtrb.specs.Ring.{known_items}
 use Rattle.link_params.specs.declared.cells.LaneCell.{LaneCell}
 use Rattle.link_params.specs.declared.fields.Params.{Params}
 use Rattle.link_params.specs.Lanes.{LaneKind}
-use Rattle.link_params.specs.Numbers.{octets_per_tick}
+use Rattle.link_params.specs.Numbers.{octets_per_tick, period}
 use Rattle.bring_up.specs.declared.stage.Stage.{Stage}
 use Rattle.bring_up.specs.declared.stage.Stage.TheVariants as stage
 use Rattle.bring_up.specs.Decisions.{is_running}
 use Rattle.scenario.specs.Plans.{Plan, numbers_from}
-use Rattle.lane_threads.specs.declared.cell_end.CellEnd.{CellEnd}
-use Rattle.lane_threads.specs.declared.lane_pair.LanePair.{LanePair}
 use Rattle.lane_threads.specs.Segments.{pushed}
 use Rattle.link_model.proofs.ColumnHistory.{cell_given, column, columns-now-none, gives-none, gives-some}
 use Rattle.link_model.proofs.DeliveryHistory.{delivered-early, delivered-still}
@@ -30,8 +27,9 @@ use Rattle.link_run.proofs.GiveFacts.{begun-few, columns-early, columns-late, co
 use Rattle.link_run.proofs.RunFacts.{IsRunOf}
 use Rattle.link_run.specs.Given.{cells_at, cells_in}
 use Rattle.link_run.specs.kept.Collected.{Collecting, Collects, HasCollected, columns_of, lead_of}
-use Rattle.link_run.specs.kept.Ends.{ArePairs, HasCells, HaveCells, HavePopped, IsPopped, first_of, next_cell}
 use Rattle.link_run.specs.kept.Gathered.{FramesAre, Gathering, HasGathered, Whole, delivered_of}
+use Rattle.link_run.specs.kept.Waits.{AreNext, HaveRoom, HaveWaiting, IsNext, Waits, first_of, next_of}
+use Rattle.link_run.proofs.TakenCells.{room-next}
 
 -- ---- the cells of some ticks
 
@@ -95,168 +93,142 @@ cells-late s lane t r below goes late =
     ∙ ap pushed (gives-some k s h r.facts r.legal r.lanes r.begun r.kept lane below
     (running (moment_of s h).stage goes) late)
 
--- ---- an end, with a tick more
+-- ---- the cells that wait, with a tick more
 
-has-cells-none : (end : CellEnd) (s : Plan) (t n lane : ℕ) → cells_at s lane t ≡ []
-    → HasCells end s t (suc n) lane → HasCells end s (suc t) n lane
-has-cells-none end s t n lane none had = record {
-  received_are = had.received_are
-      ∙ sym (cells-last s lane t
-      ∙ ap (λ (xs : List LaneCell). cells_in s lane 0 t ++ xs) none
-      ∙ append-nil (cells_in s lane 0 t));
-  known_are = had.known_are ∙ cells-first n s lane t
-      ∙ ap (λ (xs : List LaneCell). xs ++ cells_in s lane (suc t) n) none;
-}
+waits-none : (w : Waits) (s : Plan) (t n lane : ℕ) → cells_at s lane t ≡ []
+    → w.cells ≡ cells_in s lane t (suc n) → w.cells ≡ cells_in s lane (suc t) n
+waits-none w s t n lane none had =
+    had ∙ cells-first n s lane t ∙ ap (λ (xs : List LaneCell). xs ++ cells_in s lane (suc t) n) none
 
 -- the cell that was taken is that of the tick
-popped-is : (old now : CellEnd) (s : Plan) (t n lane : ℕ) (c : LaneCell)
-    → cells_at s lane t ≡ c ∷ [] → (p : IsPopped old now) → HasCells old s t (suc n) lane
-    → p.cell ∷ known_items now.ring ≡ c ∷ cells_in s lane (suc t) n
-popped-is old now s t n lane c one p had =
-    sym p.known_before ∙ had.known_are ∙ cells-first n s lane t
+first-is : (old now : Waits) (s : Plan) (t n lane : ℕ) (c : LaneCell)
+    → cells_at s lane t ≡ c ∷ [] → (p : IsNext old now) → old.cells ≡ cells_in s lane t (suc n)
+    → p.cell ∷ now.cells ≡ c ∷ cells_in s lane (suc t) n
+first-is old now s t n lane c one p had =
+    sym p.first ∙ had ∙ cells-first n s lane t
     ∙ ap (λ (xs : List LaneCell). xs ++ cells_in s lane (suc t) n) one
 
-has-cells-one : (old now : CellEnd) (s : Plan) (t n lane : ℕ) (c : LaneCell)
-    → cells_at s lane t ≡ c ∷ [] → IsPopped old now → HasCells old s t (suc n) lane
-    → HasCells now s (suc t) n lane
-has-cells-one old now s t n lane c one p had =
-    let all = popped-is old now s t n lane c one p had in
-    let same : p.cell ≡ c = cc in
-    let rest : known_items now.ring ≡ cells_in s lane (suc t) n = cc in
-    record {
-      received_are = p.received_too
-          ∙ ap₂ (λ (xs : List LaneCell) (x : LaneCell). xs ++ x ∷ []) had.received_are same
-          ∙ sym (cells-last s lane t
-          ∙ ap (λ (xs : List LaneCell). cells_in s lane 0 t ++ xs) one);
-      known_are = rest;
-    }
+waits-one : (old now : Waits) (s : Plan) (t n lane : ℕ) (c : LaneCell)
+    → cells_at s lane t ≡ c ∷ [] → IsNext old now → old.cells ≡ cells_in s lane t (suc n)
+    → now.cells ≡ cells_in s lane (suc t) n
+waits-one old now s t n lane c one p had =
+    let all = first-is old now s t n lane c one p had in
+    let rest : now.cells ≡ cells_in s lane (suc t) n = cc in
+    rest
 
-next-is : (old now : CellEnd) (s : Plan) (t n lane : ℕ) (c : LaneCell)
-    → cells_at s lane t ≡ c ∷ [] → IsPopped old now → HasCells old s t (suc n) lane
-    → next_cell old ≡ Some c
+next-is : (old now : Waits) (s : Plan) (t n lane : ℕ) (c : LaneCell)
+    → cells_at s lane t ≡ c ∷ [] → IsNext old now → old.cells ≡ cells_in s lane t (suc n)
+    → next_of old ≡ Some c
 next-is old now s t n lane c one p had =
-    let all = popped-is old now s t n lane c one p had in
+    let all = first-is old now s t n lane c one p had in
     let same : p.cell ≡ c = cc in
-    ap first_of p.known_before ∙ ap (λ (x : LaneCell). Some x) same
+    ap first_of p.first ∙ ap (λ (x : LaneCell). Some x) same
 
--- a cell is known to be there
-pub known-some : (end : CellEnd) (s : Plan) (t n lane : ℕ) (c : LaneCell)
-    → cells_at s lane t ≡ c ∷ [] → HasCells end s t (suc n) lane
-    → 0 < length (known_items end.ring)
-known-some end s t n lane c one had =
-    let all = ap length (had.known_are ∙ cells-first n s lane t
+-- a cell waits
+pub waits-some : (w : Waits) (s : Plan) (t n lane : ℕ) (c : LaneCell)
+    → cells_at s lane t ≡ c ∷ [] → w.cells ≡ cells_in s lane t (suc n) → 0 < length w.cells
+waits-some w s t n lane c one had =
+    let all = ap length (had ∙ cells-first n s lane t
     ∙ ap (λ (xs : List LaneCell). xs ++ cells_in s lane (suc t) n) one) in
     omega arith
 
--- ---- the ends, one after another
+-- ---- one lane after another
 
--- from the first n ends a cell was taken, and it stands among those that were given
-pub record ArePopped (old now : List CellEnd) (given : List (Option LaneCell)) (n : ℕ)
+-- from the first n lanes the next cell was taken, and it stands among those that were given
+pub record AreTaken (old now : List Waits) (given : List (Option LaneCell)) (n : ℕ)
     : Type 0 where
   pub count : length now ≡ length old
   pub room : length given ≡ length old
-  pub popped : (k : ℕ) (e : CellEnd) → k < n → k < length old
-      → IsPopped (get_or old k e) (get_or now k e)
-  pub stood : (k : ℕ) (e : CellEnd) → n ≤ k → k < length old → get_or now k e ≡ get_or old k e
-  pub gave : (k : ℕ) (e : CellEnd) (d : Option LaneCell) → k < n → k < length old
-      → get_or given k d ≡ next_cell (get_or old k e)
+  pub taken : (k : ℕ) (w : Waits) → k < n → k < length old
+      → IsNext (get_or old k w) (get_or now k w)
+  pub stood : (k : ℕ) (w : Waits) → n ≤ k → k < length old → get_or now k w ≡ get_or old k w
+  pub gave : (k : ℕ) (w : Waits) (d : Option LaneCell) → k < n → k < length old
+      → get_or given k d ≡ next_of (get_or old k w)
 
-pub popped-none : (ends : List CellEnd) (given : List (Option LaneCell))
-    → length given ≡ length ends → ArePopped ends ends given 0
-popped-none ends given room = record {
+pub taken-none : (waits : List Waits) (given : List (Option LaneCell))
+    → length given ≡ length waits → AreTaken waits waits given 0
+taken-none waits given room = record {
   count = refl;
   room = room;
-  popped = λ k e low below. absurd (omega arith);
-  stood = λ k e from below. refl;
-  gave = λ k e d low below. absurd (omega arith);
+  taken = λ k w low below. absurd (omega arith);
+  stood = λ k w from below. refl;
+  gave = λ k w d low below. absurd (omega arith);
 }
 
-pub popped-more : (old now : List CellEnd) (given : List (Option LaneCell)) (n : ℕ)
-    (x y d : CellEnd) → n < length now → x ≡ get_or now n d → (p : IsPopped x y)
-    → ArePopped old now given n
-    → ArePopped old (set now n y) (set given n (Some p.cell)) (n + 1)
-popped-more old now given n x y d below is p h =
+pub taken-more : (old now : List Waits) (given : List (Option LaneCell)) (n : ℕ)
+    (x y d : Waits) → n < length now → x ≡ get_or now n d → (p : IsNext x y)
+    → AreTaken old now given n
+    → AreTaken old (set now n y) (set given n (Some p.cell)) (n + 1)
+taken-more old now given n x y d below is p h =
     let count = h.count in
     let room = h.room in
     let inside : n < length old = omega arith in
-    let is_old : (e : CellEnd) → x ≡ get_or old n e =
-    λ e. is ∙ get_or_default now n d e below ∙ h.stood n e (omega arith) inside in
-    let here : (e : CellEnd) → IsPopped (get_or old n e) (get_or (set now n y) n e) =
-    λ e. subst (λ (b : CellEnd). IsPopped (get_or old n e) b) (sym (get_or-set_same now n y e below))
-    (subst (λ (a : CellEnd). IsPopped a y) (is_old e) p) in
+    let is_old : (w : Waits) → x ≡ get_or old n w =
+    λ w. is ∙ get_or_default now n d w below ∙ h.stood n w (omega arith) inside in
+    let here : (w : Waits) → IsNext (get_or old n w) (get_or (set now n y) n w) =
+    λ w. subst (λ (b : Waits). IsNext (get_or old n w) b) (sym (get_or-set_same now n y w below))
+    (subst (λ (a : Waits). IsNext a y) (is_old w) p) in
     record {
       count = length-set now n y ∙ count;
       room = length-set given n (Some p.cell) ∙ room;
-      popped = λ k e low in_list. elim (cases_lt k n) [
+      taken = λ k w low in_list. elim (cases_lt k n) [
         | inl before ↦ let apart : k ≢ n = λ same. omega arith in
-            subst (λ (b : CellEnd). IsPopped (get_or old k e) b)
-            (sym (get_or-set_other now n k y e apart)) (h.popped k e before in_list)
+            subst (λ (b : Waits). IsNext (get_or old k w) b)
+            (sym (get_or-set_other now n k y w apart)) (h.taken k w before in_list)
         | inr after ↦
             let same : n ≡ k = omega arith in
-            subst (λ (m : ℕ). IsPopped (get_or old m e) (get_or (set now n y) m e)) same (here e)
+            subst (λ (m : ℕ). IsNext (get_or old m w) (get_or (set now n y) m w)) same (here w)
       ];
-      stood = λ k e from in_list. let apart : k ≢ n = λ same. omega arith in
-          get_or-set_other now n k y e apart ∙ h.stood k e (omega arith) in_list;
-      gave = λ k e o low in_list. elim (cases_lt k n) [
+      stood = λ k w from in_list. let apart : k ≢ n = λ same. omega arith in
+          get_or-set_other now n k y w apart ∙ h.stood k w (omega arith) in_list;
+      gave = λ k w o low in_list. elim (cases_lt k n) [
         | inl before ↦ let apart : k ≢ n = λ same. omega arith in
-            get_or-set_other given n k (Some p.cell) o apart ∙ h.gave k e o before in_list
+            get_or-set_other given n k (Some p.cell) o apart ∙ h.gave k w o before in_list
         | inr after ↦
             let same : n ≡ k = omega arith in
-            let next : Some p.cell ≡ next_cell (get_or old n e) =
-            sym (ap first_of p.known_before) ∙ ap next_cell (is_old e) in
-            subst (λ (m : ℕ). get_or (set given n (Some p.cell)) m o ≡ next_cell (get_or old m e))
+            let next : Some p.cell ≡ next_of (get_or old n w) =
+            sym (ap first_of p.first) ∙ ap next_of (is_old w) in
+            subst (λ (m : ℕ). get_or (set given n (Some p.cell)) m o ≡ next_of (get_or old m w))
             same (get_or-set_same given n (Some p.cell) o (omega arith) ∙ next)
       ];
     }
 
 -- lists whose elements are the same
-each-next : (given : List (Option LaneCell)) (ends : List CellEnd) → length given ≡ length ends
-    → ((k : ℕ) (e : CellEnd) (d : Option LaneCell) → k < length ends
-    → get_or given k d ≡ next_cell (get_or ends k e)) → given ≡ map next_cell ends
+each-next : (given : List (Option LaneCell)) (waits : List Waits) → length given ≡ length waits
+    → ((k : ℕ) (w : Waits) (d : Option LaneCell) → k < length waits
+    → get_or given k d ≡ next_of (get_or waits k w)) → given ≡ map next_of waits
 each-next [] [] e is = refl
-each-next [] (x ∷ ends) e is = absurd (omega arith)
+each-next [] (x ∷ waits) e is = absurd (omega arith)
 each-next (g ∷ given) [] e is = absurd (omega arith)
-each-next (g ∷ given) (x ∷ ends) e is =
+each-next (g ∷ given) (x ∷ waits) e is =
     ap₂ (λ (a : Option LaneCell) (b : List (Option LaneCell)). a ∷ b) (is 0 x g (omega arith))
-    (each-next given ends (omega arith) (λ k f d below. is (suc k) f d (omega arith)))
+    (each-next given waits (omega arith) (λ k f d below. is (suc k) f d (omega arith)))
 
-pub popped-given : (old now : List CellEnd) (given : List (Option LaneCell)) (n : ℕ)
-    → ArePopped old now given n → length old ≤ n → given ≡ map next_cell old
-popped-given old now given n h all =
-    each-next given old h.room (λ k e d below. h.gave k e d (omega arith) below)
+pub taken-given : (old now : List Waits) (given : List (Option LaneCell)) (n : ℕ)
+    → AreTaken old now given n → length old ≤ n → given ≡ map next_of old
+taken-given old now given n h all =
+    each-next given old h.room (λ k w d below. h.gave k w d (omega arith) below)
 
-pub popped-all : (old now : List CellEnd) (given : List (Option LaneCell)) (n : ℕ)
-    → ArePopped old now given n → length old ≤ n → HavePopped old now
-popped-all old now given n h all = record {
+pub taken-all : (old now : List Waits) (given : List (Option LaneCell)) (n : ℕ)
+    → AreTaken old now given n → length old ≤ n → AreNext old now
+taken-all old now given n h all = record {
   count = h.count;
-  each = λ lane e below. h.popped lane e (omega arith) below;
-}
-
--- the lanes and the ends stay pairs
-pub still-pairs : (lanes : List LanePair) (old now : List CellEnd) → HavePopped old now
-    → ArePairs lanes old → ArePairs lanes now
-still-pairs lanes old now h pairs = record {
-  count = h.count ∙ pairs.count;
-  each = λ lane d e below.
-      let count = pairs.count in
-      let r = (h.each lane e (omega arith)).ring.0 in
-      let pair = pairs.each lane d e below in
-      (r.0 ∙ pair.0, r.1 ∙ pair.1, r.2 ∙ pair.2, r.3 ∙ pair.3);
+  each = λ lane w below. h.taken lane w (omega arith) below;
 }
 
 -- what each lane gave
-next-cells : (ends : List CellEnd) (f : ℕ → LaneCell) (a n : ℕ) → length ends ≡ n
-    → ((k : ℕ) (e : CellEnd) → k < n → next_cell (get_or ends k e) ≡ Some (f (a + k)))
-    → map next_cell ends ≡ map (λ c. Some c) (map f (numbers_from a n))
+next-cells : (waits : List Waits) (f : ℕ → LaneCell) (a n : ℕ) → length waits ≡ n
+    → ((k : ℕ) (w : Waits) → k < n → next_of (get_or waits k w) ≡ Some (f (a + k)))
+    → map next_of waits ≡ map (λ c. Some c) (map f (numbers_from a n))
 unfolding numbers_from
 next-cells [] f a zero e is = refl
 next-cells [] f a (suc n) e is = absurd (omega arith)
-next-cells (x ∷ ends) f a zero e is = absurd (omega arith)
-next-cells (x ∷ ends) f a (suc n) e is =
+next-cells (x ∷ waits) f a zero e is = absurd (omega arith)
+next-cells (x ∷ waits) f a (suc n) e is =
     let z : a + 0 ≡ a = omega arith in
     ap₂ (λ (o : Option LaneCell) (os : List (Option LaneCell)). o ∷ os)
     (is 0 x (omega arith) ∙ ap (λ (k : ℕ). Some (f k)) z)
-    (next-cells ends f (suc a) n (omega arith) (λ k d below.
+    (next-cells waits f (suc a) n (omega arith) (λ k d below.
     let up : a + suc k ≡ suc a + k = omega arith in
     is (suc k) d (omega arith) ∙ ap (λ (m : ℕ). Some (f m)) up))
 
@@ -265,6 +237,8 @@ next-cells (x ∷ ends) f a (suc n) e is =
 -- the ticks before tick t were collected, and where a hunt begins with it nothing is kept of them
 pub record HasLeft (now : Collecting) (s : Plan) (t : ℕ) : Type 0 where
   pub end_count : length now.ends ≡ s.link.params.l
+  pub wait_count : length now.waiting ≡ s.link.params.l
+  pub room : HaveRoom now.waiting (period s.link.params)
   pub lead_is : now.lead ≡ lead_of s.link.params
   pub ahead_is : now.ahead ≡ now.lead - gives_in (session s (run_of s t))
   pub gathered : HasGathered now.gathering s.link.params (columns_left s (run_of s t))
@@ -298,6 +272,10 @@ has-left old now hunt s t had is same gathered =
     let first : now.lead ≡ old.lead = ap (λ (v : Collecting). v.lead) same in
     record {
       end_count = ap (λ (v : Collecting). length v.ends) same ∙ had.end_count;
+      wait_count = ap (λ (v : Collecting). length v.waiting) same ∙ had.wait_count;
+      room =
+          subst (λ (waits : List Waits). HaveRoom waits (period s.link.params))
+          (sym (ap (λ (v : Collecting). v.waiting) same)) had.room;
       lead_is = first ∙ had.lead_is;
       ahead_is = ap (λ (v : Collecting). v.ahead) same
           ∙ ap (λ (b : Bool). if b then old.lead else old.ahead) is
@@ -324,22 +302,25 @@ begun-left old begun now hunt s t is had hunts same gathered =
     (has-left old begun hunt s t had hunts same gathered)
 
 pub begun-cells : (old begun now : Collecting) (s : Plan) (t n : ℕ) → now ≡ begun
-    → begun.ends ≡ old.ends → HaveCells old.ends s t n → HaveCells now.ends s t n
+    → begun.waiting ≡ old.waiting → HaveWaiting old.waiting s t n → HaveWaiting now.waiting s t n
 begun-cells old begun now s t n is same had =
-    subst (λ (ends : List CellEnd). HaveCells ends s t n)
-    (sym (ap (λ (v : Collecting). v.ends) is ∙ same)) had
+    subst (λ (waits : List Waits). HaveWaiting waits s t n)
+    (sym (ap (λ (v : Collecting). v.waiting) is ∙ same)) had
 
 -- ---- and is over
 
 has-next : (now : Collecting) (s : Plan) (t : ℕ) → IsRunOf s (run_of s t)
-    → length now.ends ≡ s.link.params.l → now.lead ≡ lead_of s.link.params
+    → length now.ends ≡ s.link.params.l → length now.waiting ≡ s.link.params.l
+    → HaveRoom now.waiting (period s.link.params) → now.lead ≡ lead_of s.link.params
     → now.ahead ≡ now.lead - (gives_in (session s (run_of s t))
     + (if is_running (moment_of s (run_of s t)).stage then 1 else 0))
     → HasGathered now.gathering s.link.params (columns_of s (with_tick s (run_of s t)))
     → HasCollected now s (suc t)
 unfolding run
-has-next now s t r ends first ahead gathered = record {
+has-next now s t r ends waits room first ahead gathered = record {
   end_count = ends;
+  wait_count = waits;
+  room = room;
   lead_is = first;
   ahead_is = ahead
       ∙ ap (λ (n : ℕ). now.lead - n)
@@ -364,6 +345,8 @@ pub rested-left : (was : Collecting) (now : Gathering) (s : Plan) (t : ℕ) → 
     → HasGathered now p columns) → HasLeft (record was { gathering = now }) s t
 rested-left was now s t l gathered = record {
   end_count = l.end_count;
+  wait_count = l.wait_count;
+  room = l.room;
   lead_is = l.lead_is;
   ahead_is = l.ahead_is;
   gathered = gathered s.link.params (columns_left s (run_of s t)) l.gathered;
@@ -371,7 +354,7 @@ rested-left was now s t l gathered = record {
 
 -- a tick in which nothing is gathered
 pub collects-still : (was : Collecting) (s : Plan) (t n : ℕ) → IsRunOf s (run_of s t)
-    → HasLeft was s t → HaveCells was.ends s t (suc n)
+    → HasLeft was s t → HaveWaiting was.waiting s t (suc n)
     → is_running (moment_of s (run_of s t)).stage ≡ false → was.gathering.frames ≡ []
     → Collects was s t n
 collects-still was s t n r l cells halts none =
@@ -381,11 +364,12 @@ collects-still was s t n r l cells halts none =
     ≡ gives_in (session s h) + (if is_running (moment_of s h).stage then 1 else 0) =
     rw halts (omega arith) in
     record {
-      has = has-next was s t r l.end_count l.lead_is
+      has = has-next was s t r l.end_count l.wait_count l.room l.lead_is
           (l.ahead_is ∙ ap (λ (m : ℕ). was.lead - m) same)
           (subst (HasGathered was.gathering p) (sym (columns-still s h r halts)) l.gathered);
-      cells = λ lane e below.
-          has-cells-none _ s t n lane (cells-still s lane t halts) (cells lane e below);
+      cells = λ lane w below.
+          waits-none (get_or was.waiting lane w) s t n lane (cells-still s lane t halts)
+          (cells lane w below);
       delivered_is = delivered-in s t was.gathering.frames was.gathering.at
           (rw none (delivered-nothing s h was.gathering.at
           (delivered-still (kind_of p) s h halts)));
@@ -394,7 +378,7 @@ collects-still was s t n r l cells halts none =
     }
 
 pub collects-early : (was : Collecting) (s : Plan) (t n : ℕ) → IsRunOf s (run_of s t)
-    → HasLeft was s t → HaveCells was.ends s t (suc n)
+    → HasLeft was s t → HaveWaiting was.waiting s t (suc n)
     → is_running (moment_of s (run_of s t)).stage ≡ true → 0 < was.ahead
     → was.gathering.frames ≡ [] → Collects (record was { ahead = was.ahead - 1 }) s t n
 collects-early was s t n r l cells goes some none =
@@ -408,13 +392,14 @@ collects-early was s t n r l cells goes some none =
     ≡ g + 1 = rw goes refl in
     let less : was.ahead - 1 ≡ was.lead - (g + 1) = omega arith in
     record {
-      has = has-next (record was { ahead = was.ahead - 1 }) s t r l.end_count l.lead_is
+      has = has-next (record was { ahead = was.ahead - 1 }) s t r l.end_count l.wait_count l.room l.lead_is
           (less ∙ ap (λ (m : ℕ). was.lead - m) (sym one))
           (subst (HasGathered was.gathering p) (sym (columns-early s h r early)) l.gathered);
-      cells = λ lane e below.
-          (let ends = l.end_count in
-          has-cells-none _ s t n lane (cells-early s lane t r (omega arith) early)
-          (cells lane e below));
+      cells = λ lane w below.
+          (let waits = l.wait_count in
+          waits-none (get_or was.waiting lane w) s t n lane
+          (cells-early s lane t r (omega arith) early)
+          (cells lane w below));
       delivered_is = delivered-in s t was.gathering.frames was.gathering.at
           (rw none (delivered-nothing s h was.gathering.at
           (delivered-early (kind_of p) s h r.facts r.legal r.lanes r.octets r.begun r.kept early)));
@@ -424,9 +409,9 @@ collects-early was s t n r l cells goes some none =
 
 -- a tick in which each lane gives a cell
 pub collects-late : (was now : Collecting) (given : List (Option LaneCell)) (s : Plan) (t n : ℕ)
-    → IsRunOf s (run_of s t) → HasLeft was s t → HaveCells was.ends s t (suc n)
+    → IsRunOf s (run_of s t) → HasLeft was s t → HaveWaiting was.waiting s t (suc n)
     → is_running (moment_of s (run_of s t)).stage ≡ true → was.ahead ≡ 0
-    → HavePopped was.ends now.ends → given ≡ map next_cell was.ends
+    → now.ends ≡ was.ends → AreNext was.waiting now.waiting → given ≡ map next_of was.waiting
     → now.lead ≡ was.lead → now.ahead ≡ was.ahead
     → ((columns : Columns) (column : List LaneCell)
     → HasGathered was.gathering s.link.params columns → given ≡ map (λ c. Some c) column
@@ -436,23 +421,24 @@ pub collects-late : (was now : Collecting) (given : List (Option LaneCell)) (s :
     → FramesAre now.gathering.frames s.link.params (length columns)
     (columns ++ octet_columns s.link.params column))
     → Collects now s t n
-collects-late was now given s t n r l cells goes none popped gave first_same ahead_same gathers leave =
+collects-late was now given s t n r l cells goes none same taken gave first_same ahead_same gathers leave =
     let h : History = run_of s t in
     let p = s.link.params in
     let k : LaneKind = kind_of p in
     let g = gives_in (session s h) in
     let count = l.ahead_is in
     let first = l.lead_is in
-    let ends = l.end_count in
+    let waits = l.wait_count in
     let late : lead p ≤ g = omega arith in
     let runs = running (moment_of s h).stage goes in
     let one : (lane : ℕ) → lane < p.l → cells_at s lane t ≡ cell_given k s h lane ∷ [] =
     λ lane below. cells-late s lane t r below goes late in
     let all : given ≡ map (λ c. Some c) (column k s h) =
-    gave ∙ next-cells was.ends (cell_given k s h) 0 p.l ends (λ lane e below.
+    gave ∙ next-cells was.waiting (cell_given k s h) 0 p.l waits (λ lane w below.
     let z : lane ≡ 0 + lane = omega arith in
-    next-is (get_or was.ends lane e) (get_or now.ends lane e) s t n lane (cell_given k s h lane)
-    (one lane below) (popped.each lane e (omega arith)) (cells lane e (omega arith))
+    next-is (get_or was.waiting lane w) (get_or now.waiting lane w) s t n lane
+    (cell_given k s h lane) (one lane below) (taken.each lane w (omega arith))
+    (cells lane w (omega arith))
     ∙ ap (λ (m : ℕ). Some (cell_given k s h m)) z) in
     let more : Columns = octet_columns p (column k s h) in
     let columns = columns-late s h r runs late in
@@ -460,14 +446,15 @@ collects-late was now given s t n r l cells goes none popped gave first_same ahe
     let frames = leave (columns_left s h) (column k s h) l.gathered all in
     let gone : now.ahead ≡ now.lead - (g + (if is_running (moment_of s h).stage then 1 else 0)) =
     rw goes (omega arith) in
-    let long = popped.count in
+    let long = taken.count in
     record {
-      has = has-next now s t r (popped.count ∙ ends) (first_same ∙ first) gone
+      has = has-next now s t r (ap length same ∙ l.end_count) (taken.count ∙ waits)
+          (room-next was.waiting now.waiting (period p) taken l.room) (first_same ∙ first) gone
           (subst (HasGathered now.gathering p) (sym columns) gathered);
-      cells = λ lane e below.
-          has-cells-one (get_or was.ends lane e) (get_or now.ends lane e) s t n lane
-          (cell_given k s h lane) (one lane (omega arith)) (popped.each lane e (omega arith))
-          (cells lane e (omega arith));
+      cells = λ lane w below.
+          waits-one (get_or was.waiting lane w) (get_or now.waiting lane w) s t n lane
+          (cell_given k s h lane) (one lane (omega arith)) (taken.each lane w (omega arith))
+          (cells lane w (omega arith));
       delivered_is = delivered-in s t now.gathering.frames now.gathering.at
           (delivered-frames s h now.gathering more r columns frames gathered);
       sizes = have-octets p (length (columns_left s h)) (columns_left s h ++ more)
@@ -478,13 +465,16 @@ collects-late was now given s t n r l cells goes none popped gave first_same ahe
 -- ---- before the first tick
 
 pub collected-none : (now : Collecting) (s : Plan) → length now.ends ≡ s.link.params.l
+    → length now.waiting ≡ s.link.params.l → HaveRoom now.waiting (period s.link.params)
     → now.lead ≡ lead_of s.link.params → now.ahead ≡ now.lead
     → HasGathered now.gathering s.link.params [] → HasCollected now s 0
 unfolding run from_hunt
-collected-none now s ends first ahead gathered =
+collected-none now s ends waits room first ahead gathered =
     let none : now.lead ≡ now.lead - 0 = omega arith in
     record {
       end_count = ends;
+      wait_count = waits;
+      room = room;
       lead_is = first;
       ahead_is = ahead ∙ none;
       gathered = subst (HasGathered now.gathering s.link.params)

@@ -14,6 +14,8 @@ pub mod Carrying
 pub mod Marks
 pub mod RowOctets
 pub mod Gathering
+pub mod Filling
+pub mod TakenCells
 pub mod NamedOctets
 pub mod RunFacts
 pub mod Rooms
@@ -22,6 +24,7 @@ pub mod TickRows
 pub mod LaneStates
 pub mod GiveFacts
 pub mod Collecting
+pub mod Filling
 pub mod SegmentFacts
 pub mod LinkRuns
 pub mod TickFacts

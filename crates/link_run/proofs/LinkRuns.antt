@@ -1,5 +1,5 @@
 -- Both ends of a link and the lanes between them, through a segment.
-use Rattle.std.proofs.Common.{◌≡◌, ◌∙◌, ◌<◌, ◌≤◌, ◌+◌, ◌-◌, ℕ, suc, true, false, List, ◌++◌, length, get_or, if◌then◌else◌, Option, None, arith, sym, ap, subst, append-nil}
+use Rattle.std.proofs.Common.{◌≡◌, ◌∙◌, ◌<◌, ◌≤◌, ◌+◌, ◌-◌, ℕ, suc, true, false, List, [], ◌++◌, length, get_or, if◌then◌else◌, Option, None, inl, inr, arith, refl, sym, ap, subst, append-nil}
 use Rattle.rtrb.specs.Ring.{IsPair, sent}
 use Rattle.link_params.specs.declared.cells.LaneCell.{LaneCell}
 use Rattle.link_params.specs.declared.fields.Params.{Params}
@@ -19,20 +19,23 @@ use Rattle.link_model.specs.kept.LaneRuns.{LaneRun, lane_ready, lane_run, lane_s
 use Rattle.link_model.specs.Run.{run}
 use Rattle.link_run.proofs.Carrying.{few-cells}
 use Rattle.link_run.proofs.Collecting.{cells-last, cells-still, running}
+use Rattle.link_run.proofs.TakenCells.{filled-cells, filled-collected, filled-pairs, filled-waiting}
 use Rattle.link_run.proofs.GiveFacts.{lane-still}
 use Rattle.link_run.proofs.LaneStates.{have-same}
 use Rattle.link_run.proofs.Rooms.{IsGood, stepped-entry}
+use Rattle.link_run.specs.declared.ended.Ended.{Ended}
 use Rattle.link_run.specs.declared.happened.Happened.{Happened}
 use Rattle.link_run.specs.Given.{cells_in}
 use Rattle.link_run.specs.kept.Collected.{Collecting, HasCollected, IsLegalLink}
 use Rattle.link_run.specs.kept.Ends.{ArePairs, HaveCells}
 use Rattle.link_run.specs.kept.Happened.{are_past}
 use Rattle.link_run.specs.kept.LaneRuns.{AreAt, AreOnRings, AreSameLanes, HaveRings, HaveRunLanes, KeepRings}
-use Rattle.link_run.specs.kept.LinkStates.{HasCarriedOn, HasEnded, HasHappened, HasRun, HasSegment, IsSized, LinkView, WasPlanned}
-use Rattle.link_run.specs.kept.ReceiverRuns.{IsEnded}
-use Rattle.link_run.specs.kept.Segments.{CanGive, FollowOn, HasPlanned, IsCarried, IsPlanned, Planned, Planning, StandAt}
+use Rattle.link_run.specs.kept.LinkStates.{HasAllTaken, HasCarriedOn, HasEnded, HasFinished, HasHappened, HasNext, HasReportedBefore, HasRun, HasRunLanes, HasRunWhole, IsBefore, IsOver, IsSized, LinkView, WasPlanned}
+use Rattle.link_run.specs.kept.ReceiverRuns.{HasReceivedRun, IsEnded, RxEnd}
+use Rattle.link_run.specs.kept.Segments.{CanGive, FollowOn, HasPlanned, HasSteps, IsCarried, IsOneSegment, IsPlanned, Planned, Planning, StandAt}
 use Rattle.link_run.specs.kept.Sendings.{next_of}
 use Rattle.link_run.specs.kept.Transmitters.{HasSentRun}
+use Rattle.link_run.specs.kept.Waits.{AreFilled, HaveWaiting}
 
 -- ---- lanes and ends that stay pairs
 
@@ -144,15 +147,12 @@ pub record IsReady (x : Happened) (now : LinkView) (s : Plan) (t : ℕ) : Type 0
   pub rings : HaveRings now.lanes s t t
   pub at_next : AreAt now.lanes s.link.params
       (if x.tx_reset then None else next_of s.link.params now.planning.tx.sending)
-  pub collected : HasCollected now.collecting s t
-  pub cells : HaveCells now.collecting.ends s t 0
 
-pub is-ready : (x : Happened) (old now : LinkView) (s : Plan) (t : ℕ) → HasRun old s t
+pub is-ready : (x : Happened) (old now : LinkView) (s : Plan) (t : ℕ) → HasRunLanes old s t
     → HasHappened x old now s t → IsReady x now s t
 is-ready x old now s t had h =
     let planning = ap (λ (v : LinkView). v.planning) (sym h.same) in
-    let collecting = ap (λ (v : LinkView). v.collecting) (sym h.same) in
-    let z = had.ran.sized in
+    let z = had.sized in
     record {
       tx_reset = h.tx_reset;
       rx_reset = h.rx_reset;
@@ -160,17 +160,17 @@ is-ready x old now s t had h =
       sized = record {
         same_link = ap (λ (v : LinkView). v.link) h.same ∙ z.same_link;
         same_planning = ap (λ (v : LinkView). v.planning.link) h.same ∙ z.same_planning;
-        room = subst (λ (g : Planned). period s.link.params ≤ g.room)
-            (ap (λ (v : LinkView). v.segment) (sym h.same)) z.room;
+        room = subst (λ (e : Ended). period s.link.params ≤ e.segment.room)
+            (ap (λ (v : LinkView). v.latest) (sym h.same)) z.room;
+        last_room = subst (λ (e : Ended). period s.link.params ≤ e.segment.room)
+            (ap (λ (v : LinkView). v.last) (sym h.same)) z.last_room;
         pairs = h.pairs;
       };
-      planned = subst (λ (p : Planning). HasPlanned p s t) planning had.ran.planned;
+      planned = subst (λ (p : Planning). HasPlanned p s t) planning had.planned;
       lanes = h.lanes;
       rings = h.rings;
       at_next = subst (λ (p : Planning). AreAt now.lanes s.link.params
           (if x.tx_reset then None else next_of s.link.params p.tx.sending)) planning h.at_next;
-      collected = subst (λ (k : Collecting). HasCollected k s t) collecting had.collected;
-      cells = subst (λ (k : Collecting). HaveCells k.ends s t 0) collecting had.cells;
     }
 
 -- the lanes can run what was planned
@@ -192,31 +192,39 @@ planned-carried v x s t m mid g after legal ready same planned count follows =
     (next_of k.params after.tx.sending) (length g.steps)) ready.sized.same_planning follows)
 
 -- both ends stand at the last tick, and the lanes ran to it
-abbrev pub with_carried : LinkView → Planning → List LanePair → Planned → LinkView
-with_carried v after lanes g = record v { planning = after; lanes = lanes; segment = g }
+abbrev pub with_carried : LinkView → Planning → List LanePair → Planned → Collecting → LinkView
+with_carried v after lanes g now = record v {
+  planning = after;
+  lanes = lanes;
+  latest = record v.latest { segment = g };
+  collecting = now;
+}
 
 pub carried-on : (v : LinkView) (x : Happened) (s : Plan) (t m : ℕ) (mid lanes : List LanePair)
-    (g : Planned) (after : Planning) → IsReady x v s t → after.link ≡ v.planning.link
-    → g.room ≡ v.segment.room → AreSameLanes v.lanes mid → IsPlanned g after mid s t m
-    → AreOnRings mid lanes
+    (g : Planned) (after : Planning) (now : Collecting) → IsReady x v s t
+    → after.link ≡ v.planning.link → g.room ≡ v.latest.segment.room → AreSameLanes v.lanes mid
+    → IsPlanned g after mid s t m → AreOnRings mid lanes
+    → AreFilled v.collecting.waiting now.waiting v.collecting.ends now.ends
     → HaveRunLanes lanes s (lane_stepped (kind_of s.link.params) s (run_of s (t + m)))
     → HaveRings lanes s (t + m) (t + suc m)
     → AreAt lanes s.link.params (next_of s.link.params after.tx.sending)
-    → HasCarriedOn (with_carried v after lanes g) s t m
-carried-on v x s t m mid lanes g after ready link room same planned on runs rings at = record {
-  sized = record {
-    same_link = ready.sized.same_link;
-    same_planning = link ∙ ready.sized.same_planning;
-    room = subst (λ (n : ℕ). period s.link.params ≤ n) (sym room) ready.sized.room;
-    pairs = pairs-on mid lanes v.collecting.ends on
-        (pairs-kept v.lanes mid v.collecting.ends (keeps-same v.lanes mid same)
-        ready.sized.pairs);
-  };
-  planned = was-planned g after mid s t m planned;
-  lanes = runs;
-  rings = rings;
-  at_next = at;
-}
+    → HasCarriedOn (with_carried v after lanes g now) s t m
+carried-on v x s t m mid lanes g after now ready link room same planned on filled runs rings at =
+    record {
+      sized = record {
+        same_link = ready.sized.same_link;
+        same_planning = link ∙ ready.sized.same_planning;
+        room = subst (λ (n : ℕ). period s.link.params ≤ n) (sym room) ready.sized.room;
+        last_room = ready.sized.last_room;
+        pairs = filled-pairs lanes _ _ _ _ filled (pairs-on mid lanes v.collecting.ends on
+            (pairs-kept v.lanes mid v.collecting.ends (keeps-same v.lanes mid same)
+            ready.sized.pairs));
+      };
+      planned = was-planned g after mid s t m planned;
+      lanes = runs;
+      rings = rings;
+      at_next = at;
+    }
 
 -- ---- its last tick ends
 
@@ -259,27 +267,27 @@ runs-still lanes s t halts ran =
     have-same lanes s (lane_stepped k s (run_of s t)) (lane_run s (run_of s (suc t)))
     (λ lane below. lane-still s (run_of s t) lane (has-hunt-run k t s) halts) ran
 
--- the receiver has decided, and the lanes gave where the link runs
-pub has-ended : (old now : LinkView) (s : Plan) (t m : ℕ) → HasCarriedOn old s t m
+-- the receiver has decided, its alarms were handed out, and the lanes gave where the link runs
+pub has-ended : (old now : LinkView) (rx : RxEnd) (s : Plan) (t m : ℕ) → HasCarriedOn old s t m
     → now.planning.link ≡ old.planning.link → now.planning.next ≡ old.planning.next
     → now.planning.tx.sending ≡ old.planning.tx.sending
-    → IsEnded now.decision now.planning.rx s (run_of s (t + m))
+    → IsEnded now.latest.decision rx s (run_of s (t + m)) → now.latest.alarms ≡ rx.alarms
+    → HasReceivedRun now.planning.rx s (run_of s (suc (t + m)))
     → HasSentRun now.planning.tx s (run_of s (suc (t + m)))
-    → now.released ≡ is_running (moment_of s (run_of s (t + m))).stage
+    → now.latest.released ≡ is_running (moment_of s (run_of s (t + m))).stage
     → HaveRunLanes now.lanes s (lane_run s (run_of s (suc (t + m))))
     → HaveRings now.lanes s (suc (t + m)) (suc (t + m))
     → ArePairs now.lanes now.collecting.ends
     → AreAt now.lanes s.link.params (next_of s.link.params old.planning.tx.sending)
     → HasEnded now s t m
-unfolding run
-has-ended old now s t m c link next sending over sent released ran rings pairs at =
+has-ended old now rx s t m c link next sending over alarms told sent released ran rings pairs at =
     let e : suc (t + m) ≡ t + suc m = omega arith in
     record {
       planned = record {
         stands = subst (λ n. StandAt now.planning s n) e (record {
           same_link = link ∙ c.sized.same_planning;
           sent = sent;
-          told = over.stands;
+          told = told;
         });
         next_is = next ∙ c.planned.next_is;
       };
@@ -289,111 +297,255 @@ has-ended old now s t m c link next sending over sent released ran rings pairs a
       at_next = subst (λ x. AreAt now.lanes s.link.params (next_of s.link.params x)) (sym sending)
           at;
       decision_is = over.decision_is;
-      alarms_are = over.alarms;
+      alarms_are = alarms ∙ over.alarms;
       released_is = released;
     }
 
 -- ---- the ends meet the lanes
 
 -- the lanes and ends of `now`, and all else of `old`
-abbrev pub with_met : LinkView → List LanePair → List CellEnd → LinkView
-with_met old lanes ends = record old {
-  lanes = lanes;
-  collecting = record old.collecting { ends = ends };
-}
+abbrev pub with_met : LinkView → List LanePair → Collecting → LinkView
+with_met old lanes now = record old { lanes = lanes; collecting = now }
 
-has-segment : (on v : LinkView) (lanes : List LanePair) (ends : List CellEnd) (s : Plan)
-    (t m : ℕ) → HasCarriedOn on s t m → v.link ≡ on.link → v.segment ≡ on.segment
-    → HasEnded v s t m → HasCollected v.collecting s t → ArePairs lanes ends
-    → HaveCells ends s t (suc m) → HaveRunLanes lanes s (lane_run s (run_of s (t + suc m)))
-    → HaveRings lanes s (t + suc m) (t + suc m)
-    → AreAt lanes s.link.params (next_of s.link.params v.planning.tx.sending)
-    → HasSegment (with_met v lanes ends) s t m 0
-has-segment on v lanes ends s t m c link segment over had pairs cells ran rings at =
-    let z : t ≡ t + 0 = omega arith in
-    let all : suc m ≡ suc m - 0 = omega arith in
-    let count = pairs.count in
-    let long = ran.0 in
-    let planned = subst (λ (g : Planned). WasPlanned g on.planning s t m) (sym segment) c.planned in
-    record {
-      ran = record {
-        sized = record {
-          same_link = link ∙ c.sized.same_link;
-          same_planning = over.planned.stands.same_link;
-          room = subst (λ (g : Planned). period s.link.params ≤ g.room) (sym segment) c.sized.room;
-          pairs = pairs;
-        };
-        planned = over.planned;
-        lanes = ran;
-        rings = rings;
-        at_next = at;
-      };
-      within = omega arith;
-      has_steps = planned.has_steps;
-      one = planned.one;
-      reset = planned.reset;
-      decision_is = over.decision_is;
-      alarms_are = over.alarms_are;
-      released_is = over.released_is;
-      collected = subst (HasCollected (record v.collecting { ends = ends }) s) z (record {
-        end_count = count ∙ long;
-        lead_is = had.lead_is;
-        ahead_is = had.ahead_is;
-        gathered = had.gathered;
-      });
-      cells = subst (λ n. HaveCells ends s n (suc m - 0)) z (subst (HaveCells ends s t) all cells);
-    }
-
--- the segment `on` was carried, `end` has ended it, and is what `v` is
-pub segment-met : (on end v : LinkView) (lanes : List LanePair) (now : Collecting) (s : Plan)
-    (t m : ℕ) → HasCarriedOn on s t m → v ≡ end
-    → end ≡ record on {
-      planning = end.planning;
-      lanes = end.lanes;
-      decision = end.decision;
-      released = end.released;
-    }
-    → HasEnded end s t m → HasCollected on.collecting s t → HaveCells on.collecting.ends s t 0
-    → now ≡ record v.collecting { ends = now.ends } → ArePairs lanes now.ends
-    → (HaveRings v.lanes s (t + suc m) (t + suc m) → HaveCells v.collecting.ends s t 0
-    → HaveCells now.ends s t (suc m))
+pub has-met : (v : LinkView) (lanes : List LanePair) (now : Collecting) (s : Plan) (t : ℕ)
+    → HasRunLanes v s t → ArePairs lanes now.ends
     → ((runs : ℕ → LaneRun) → HaveRunLanes v.lanes s runs → HaveRunLanes lanes s runs)
     → ((given held : ℕ) → HaveRings v.lanes s given held → HaveRings lanes s given held)
     → ((p : Params) (next : Option ℕ) → AreAt v.lanes p next → AreAt lanes p next)
-    → HasSegment (record v { lanes = lanes; collecting = now }) s t m 0
-segment-met on end v lanes now s t m c is same ended had cells met pairs knows runs rings at =
-    let over = subst (λ (x : LinkView). HasEnded x s t m) (sym is) ended in
-    let all = is ∙ same in
-    let collecting = sym (ap (λ (x : LinkView). x.collecting) all) in
-    let left = subst (λ (k : Collecting). HaveCells k.ends s t 0) collecting cells in
-    subst (λ (k : Collecting).
-    HasSegment (let x : LinkView = record v { lanes = lanes; collecting = k } in x) s t m 0)
-    (sym met)
-    (has-segment on v lanes now.ends s t m c (ap (λ (x : LinkView). x.link) all)
-    (ap (λ (x : LinkView). x.segment) all) over
-    (subst (λ (k : Collecting). HasCollected k s t) collecting had) pairs (knows over.rings left)
-    (runs (lane_run s (run_of s (t + suc m))) over.lanes)
-    (rings (t + suc m) (t + suc m) over.rings)
-    (at s.link.params (next_of s.link.params v.planning.tx.sending) over.at_next))
+    → HasRunLanes (with_met v lanes now) s t
+has-met v lanes now s t h pairs runs rings at =
+    let z = h.sized in
+    record {
+      sized = record {
+        same_link = z.same_link;
+        same_planning = z.same_planning;
+        room = z.room;
+        last_room = z.last_room;
+        pairs = pairs;
+      };
+      planned = h.planned;
+      lanes = runs (lane_run s (run_of s t)) h.lanes;
+      rings = rings t t h.rings;
+      at_next = at s.link.params (next_of s.link.params v.planning.tx.sending) h.at_next;
+    }
+
+-- the ticks before tick t, or a part of them, are over
+pub up-to : (e : Ended) (s : Plan) (from t : ℕ) → IsBefore e s from t
+    → (from ≤ t) × (t - from ≤ period s.link.params)
+up-to e s from t before = elim before [
+  | inl none ↦ let end = none.end_is in (omega arith, omega arith)
+  | inr some ↦
+      let (m, segment) = some in
+      let end = segment.end_is in
+      let short = segment.over.one.short in
+      (omega arith, omega arith)
+]
+
+-- ---- the cells that the ends know of are taken
+
+pub has-filled : (v : LinkView) (now : Collecting) (s : Plan) (t : ℕ) → HasRunLanes v s t
+    → AreFilled v.collecting.waiting now.waiting v.collecting.ends now.ends
+    → HasRunLanes (with_met v v.lanes now) s t
+has-filled v now s t h filled =
+    has-met v v.lanes now s t h
+    (filled-pairs v.lanes _ _ _ _ filled h.sized.pairs) (λ runs had. had) (λ given held had. had)
+    (λ p next had. had)
+
+-- the ends have met the lanes, and the cells from tick `from` on and before tick t were taken
+pub record HasTaken (now : Collecting) (s : Plan) (from t : ℕ) : Type 0 where
+  pub collected : HasCollected now s from
+  pub waiting : HaveWaiting now.waiting s from (t - from)
+  pub cells : HaveCells now.ends s t 0
+
+pub has-taken : (v : LinkView) (old now : Collecting) (s : Plan) (from t : ℕ) → HasRun v s from t
+    → length old.ends ≡ s.link.params.l
+    → ((n : ℕ) → HasRunLanes v s (from + n) → HaveCells old.ends s from n)
+    → old ≡ record v.collecting { ends = old.ends }
+    → now ≡ record old { ends = now.ends; waiting = now.waiting }
+    → AreFilled old.waiting now.waiting old.ends now.ends → HasTaken now s from t
+has-taken v old now s from t h ends knows is same filled =
+    let (within, short) = up-to v.last s from t h.before in
+    let had = h.collected in
+    let m = period s.link.params in
+    let n = t - from in
+    let all : from + n ≡ t = omega arith in
+    let met : HasCollected (record v.collecting { ends = old.ends }) s from = record {
+      end_count = ends;
+      wait_count = had.wait_count;
+      room = had.room;
+      lead_is = had.lead_is;
+      ahead_is = had.ahead_is;
+      gathered = had.gathered;
+    } in
+    let stays = subst (λ (k : Collecting). HasCollected k s from) (sym is) met in
+    let none = subst (λ ws. HaveWaiting ws s from 0)
+    (sym (ap (λ (k : Collecting). k.waiting) is)) h.none_waits in
+    let count : length old.waiting ≡ length old.ends = stays.wait_count ∙ sym ends in
+    let known = knows n (subst (HasRunLanes v s) (sym all) h.ran) in
+    record {
+      collected = filled-collected old now s from same filled stays;
+      waiting = filled-waiting old.waiting now.waiting old.ends now.ends s from n m count filled
+          none stays.room short known;
+      cells = subst (λ (k : ℕ). HaveCells now.ends s k 0) all
+          (filled-cells old.waiting now.waiting old.ends now.ends s from n m count filled none
+          stays.room short known);
+    }
+
+-- ---- a segment is over
+
+-- the segment `on` was carried, and `now` has ended it
+pub has-next : (on now : LinkView) (s : Plan) (from t m : ℕ) → HasCarriedOn on s t m
+    → now ≡ record on {
+      planning = now.planning;
+      lanes = now.lanes;
+      latest = record now.latest { segment = on.latest.segment };
+    }
+    → HasEnded now s t m → IsBefore on.last s from t → HasTaken on.collecting s from t
+    → HasNext now s from t m
+has-next on now s from t m c same over before taken =
+    let last = ap (λ (v : LinkView). v.last) same in
+    let collecting = sym (ap (λ (v : LinkView). v.collecting) same) in
+    let link = ap (λ (v : LinkView). v.link) same ∙ c.sized.same_link in
+    let segment = ap (λ (v : LinkView). v.latest.segment) same in
+    let had = subst (λ (k : Collecting). HasTaken k s from t) collecting taken in
+    record {
+      ran = record {
+        sized = record {
+          same_link = link;
+          same_planning = over.planned.stands.same_link;
+          room = subst (λ (g : Planned). period s.link.params ≤ g.room) (sym segment) c.sized.room;
+          last_room = subst (λ (e : Ended). period s.link.params ≤ e.segment.room) (sym last)
+              c.sized.last_room;
+          pairs = over.pairs;
+        };
+        planned = over.planned;
+        lanes = over.lanes;
+        rings = over.rings;
+        at_next = over.at_next;
+      };
+      over = record {
+        has_steps = subst (λ (g : Planned). HasSteps g s t (suc m)) (sym segment)
+            c.planned.has_steps;
+        one = subst (λ (g : Planned). IsOneSegment g.gives s t m) (sym segment) c.planned.one;
+        reset = ap (λ (g : Planned). g.rx_reset) segment ∙ c.planned.reset;
+        decision_is = over.decision_is;
+        alarms_are = over.alarms_are;
+        released_is = over.released_is;
+      };
+      cells = had.cells;
+      due = record {
+        same_link = link;
+        before = subst (λ (e : Ended). IsBefore e s from t) (sym last) before;
+        collected = had.collected;
+        waiting = had.waiting;
+      };
+    }
+
+-- the rows of the segment before it were handed on
+pub has-turned : (v : LinkView) (s : Plan) (t m : ℕ) → HasReportedBefore v s t m
+    → HasRun (record v { latest = v.last; last = v.latest }) s t (t + suc m)
+has-turned v s t m h =
+    let z = h.ran.sized in
+    record {
+      ran = record {
+        sized = record {
+          same_link = z.same_link;
+          same_planning = z.same_planning;
+          room = z.last_room;
+          last_room = z.room;
+          pairs = z.pairs;
+        };
+        planned = h.ran.planned;
+        lanes = h.ran.lanes;
+        rings = h.ran.rings;
+        at_next = h.ran.at_next;
+      };
+      before = inr (m, record { end_is = refl; over = h.over });
+      collected = h.taken.collected;
+      cells = h.cells;
+      none_waits = h.taken.none_waits;
+    }
+
+-- the run is over
+pub has-finished : (old now : LinkView) (s : Plan) (from t : ℕ) → HasRunLanes now s t
+    → now.last ≡ old.last → IsBefore old.last s from t → HasTaken now.collecting s from t
+    → HasFinished now s from t
+has-finished old now s from t ran last before taken = record {
+  ran = ran;
+  cells = taken.cells;
+  due = record {
+    same_link = ran.sized.same_link;
+    before = subst (λ (e : Ended). IsBefore e s from t) (sym last) before;
+    collected = taken.collected;
+    waiting = taken.waiting;
+  };
+}
+
+-- ---- the rows of the ticks that are due were handed on
+
+-- nothing but what is collected has changed, and the ends have not
+pub record IsReported (old now : LinkView) : Type 0 where
+  pub same : now ≡ record old { collecting = now.collecting }
+  pub ends : now.collecting.ends ≡ old.collecting.ends
+
+ran-reported : (old now : LinkView) (s : Plan) (t : ℕ) → IsReported old now → HasRunLanes old s t
+    → HasRunLanes now s t
+ran-reported old now s t r h =
+    subst (λ (v : LinkView). HasRunLanes v s t) (sym r.same)
+    (has-met old old.lanes now.collecting s t h
+    (subst (ArePairs old.lanes) (sym r.ends) h.sized.pairs) (λ runs had. had)
+    (λ given held had. had) (λ p next had. had))
+
+cells-reported : (old now : LinkView) (s : Plan) (t : ℕ) → IsReported old now
+    → HaveCells old.collecting.ends s t 0 → HaveCells now.collecting.ends s t 0
+cells-reported old now s t r cells =
+    subst (λ (ends : List CellEnd). HaveCells ends s t 0) (sym r.ends) cells
+
+pub reported-before : (old now : LinkView) (s : Plan) (from t m : ℕ) → IsReported old now
+    → HasNext old s from t m → HasAllTaken now s t → HasReportedBefore now s t m
+reported-before old now s from t m r h taken = record {
+  ran = ran-reported old now s (t + suc m) r h.ran;
+  over = subst (λ (e : Ended). IsOver e s t m) (sym (ap (λ (v : LinkView). v.latest) r.same)) h.over;
+  cells = cells-reported old now s t r h.cells;
+  taken = taken;
+}
+
+pub run-whole : (old now : LinkView) (s : Plan) (from t : ℕ) → IsReported old now
+    → HasFinished old s from t → t ≡ s.ticks → HasRunWhole now s
+run-whole old now s from t r h all = record {
+  ran = subst (HasRunLanes now s) all (ran-reported old now s t r h.ran);
+  cells = subst (λ (n : ℕ). HaveCells now.collecting.ends s n 0) all
+      (cells-reported old now s t r h.cells);
+}
 
 -- ---- before the first tick
 
 pub run-none : (v : LinkView) (s : Plan) → v.link ≡ s.link → v.planning.link ≡ s.link
-    → period s.link.params ≤ v.segment.room → ArePairs v.lanes v.collecting.ends
+    → period s.link.params ≤ v.latest.segment.room → period s.link.params ≤ v.last.segment.room
+    → v.last.segment.steps ≡ [] → ArePairs v.lanes v.collecting.ends
     → HasPlanned v.planning s 0 → next_of s.link.params v.planning.tx.sending ≡ None
     → HaveRunLanes v.lanes s (λ lane. no_run s) → HaveRings v.lanes s 0 0
     → AreAt v.lanes s.link.params None → HasCollected v.collecting s 0
-    → HaveCells v.collecting.ends s 0 0 → HasRun v s 0
+    → HaveCells v.collecting.ends s 0 0 → HaveWaiting v.collecting.waiting s 0 0 → HasRun v s 0 0
 unfolding run
-run-none v s link planning room pairs planned none runs rings at collected cells = record {
-  ran = record {
-    sized = record { same_link = link; same_planning = planning; room = room; pairs = pairs };
-    planned = planned;
-    lanes = have-same v.lanes s (λ lane. no_run s) (lane_run s (run_of s 0))
-        (λ lane below. sym (lane-run-none s lane)) runs;
-    rings = rings;
-    at_next = subst (AreAt v.lanes s.link.params) (sym none) at;
-  };
-  collected = collected;
-  cells = cells;
-}
+run-none v s link planning room last empty pairs planned none runs rings at collected cells waits =
+    record {
+      ran = record {
+        sized = record {
+          same_link = link;
+          same_planning = planning;
+          room = room;
+          last_room = last;
+          pairs = pairs;
+        };
+        planned = planned;
+        lanes = have-same v.lanes s (λ lane. no_run s) (lane_run s (run_of s 0))
+            (λ lane below. sym (lane-run-none s lane)) runs;
+        rings = rings;
+        at_next = subst (AreAt v.lanes s.link.params) (sym none) at;
+      };
+      before = inl (record { end_is = refl; empty = empty });
+      collected = collected;
+      cells = cells;
+      none_waits = waits;
+    }

@@ -1,10 +1,11 @@
 -- What is collected of a segment, and the most entries that lanes held.
-use Rattle.std.proofs.Common.{◌≡◌, ◌≢◌, ◌∙◌, ◌<◌, ◌≤◌, ◌+◌, ◌-◌, ◌*◌, ◌%◌, ◌==◌, ◌&&◌, nat_lt, ℕ, zero, suc, Bool, false, List, [], ◌∷◌, fold, map, max, length, get_or, if◌then◌else◌, None, inl, inr, arith, refl, sym, ap, ap₂, subst}
+use Rattle.std.proofs.Common.{◌≡◌, ◌≢◌, ◌∙◌, ◌<◌, ◌≤◌, ◌+◌, ◌-◌, ◌*◌, ◌%◌, ◌==◌, ◌&&◌, nat_lt, ℕ, zero, suc, Bool, false, List, [], ◌∷◌, ◌++◌, fold, map, max, length, get_or, if◌then◌else◌, None, inl, inr, arith, refl, sym, ap, ap₂, subst}
 use Rattle.std.proofs.lemmas.Bool.{cases_Bool, cases_lt, cond-false, cond-true, eq-eqb, ne_eqb}
 use Rattle.std.specs.Prelude.{IfSome}
 use Rattle.std.proofs.Math.Nat.{mod-lt}
 use Rattle.link_params.specs.declared.alarms.Device.TheVariants.{Rx}
 use Rattle.link_params.specs.Lanes.{LaneKind}
+use Rattle.link_params.specs.declared.cells.LaneCell.{LaneCell}
 use Rattle.link_params.specs.declared.fields.Params.{Params}
 use Rattle.link_params.specs.declared.orders.TxOrder.TheVariants.{Comma, Ilas, Data, Silent, Block}
 use Rattle.link_params.specs.Laws.{broken_law, is_b}
@@ -19,6 +20,7 @@ use Rattle.lane_threads.specs.declared.lane_pair.LanePair.{LanePair}
 use Rattle.lane_threads.specs.declared.step.Step.{Step}
 use Rattle.lane_threads.specs.Segments.{no_step}
 use Rattle.link_run.specs.declared.edges.Edges.{Edges}
+use Rattle.link_run.specs.declared.ended.Ended.{Ended}
 use Rattle.link_model.proofs.KindFacts.{lead}
 use Rattle.link_model.proofs.LaneHistory.{has-hunt-run}
 use Rattle.link_model.proofs.NextMoment.{decided-next, lanes_of, order-next}
@@ -32,17 +34,18 @@ use Rattle.link_model.specs.Moments.{History}
 use Rattle.link_model.specs.Run.{decided_in, run}
 use Rattle.link_model.specs.Orders.{Observed, from_edge, order_b, order_c, since_boundary, tx_order}
 use Rattle.link_model.specs.Sends.{data_place, observed, order_of}
-use Rattle.link_run.proofs.Collecting.{ahead-left, cells-late, known-some}
+use Rattle.link_run.proofs.Collecting.{ahead-left, cells-first, cells-late}
 use Rattle.link_run.proofs.RunFacts.{held-lanes, is-run}
 use Rattle.link_run.specs.Given.{cells_in, held_at, most_held}
 use Rattle.link_run.specs.Ran.{HaveRun}
 use Rattle.link_run.specs.kept.Collected.{CanCollect, Collecting, Collects, HasCollected, IsLegalLink}
-use Rattle.link_run.specs.kept.Ends.{ArePairs, HaveCells}
+use Rattle.link_run.specs.kept.Ends.{HaveCells}
 use Rattle.link_run.specs.kept.Gathered.{delivered_of}
 use Rattle.link_run.specs.kept.LaneRuns.{HaveRings}
-use Rattle.link_run.specs.kept.LinkStates.{HasRun, HasSegment, LinkView, alarms_in, decision_in, reset_in, runs_in, seen_in}
+use Rattle.link_run.specs.kept.LinkStates.{HasAllTaken, HasDue, HasRunLanes, HasSegment, IsBefore, LinkView, alarms_in, decision_in, reset_in, runs_in, seen_in}
 use Rattle.link_run.specs.kept.Reported.{IsSeen}
 use Rattle.link_run.specs.kept.Segments.{edges_of}
+use Rattle.link_run.specs.kept.Waits.{HaveWaiting}
 
 -- ---- one tick of the segment
 
@@ -62,11 +65,11 @@ last-or a b x n m i count within last before = elim (cases_lt i m) [
 pub runs-is : (v : LinkView) (s : Plan) (t m i : ℕ) → HasSegment v s t m i → i ≤ m
     → runs_in v i ≡ is_running (moment_of s (run_of s (t + i))).stage
 runs-is v s t m i h within =
-    last-or v.released v.segment.gives (is_running (moment_of s (run_of s (t + i))).stage)
-    (length v.segment.steps) m i h.has_steps.count within
-    (λ same. h.released_is
+    last-or v.last.released v.last.segment.gives (is_running (moment_of s (run_of s (t + i))).stage)
+    (length v.last.segment.steps) m i h.over.has_steps.count within
+    (λ same. h.over.released_is
     ∙ ap (λ (n : ℕ). is_running (moment_of s (run_of s (t + n))).stage) (sym same))
-    (λ below. sym (h.one.running i below))
+    (λ below. sym (h.over.one.running i below))
 
 -- a tick that does not decide
 nothing-decided : (s : Plan) (h : History) → (moment_of s h).decides ≡ false
@@ -79,40 +82,40 @@ nothing-decided s h halts =
 decision-is : (v : LinkView) (s : Plan) (t m i : ℕ) → HasSegment v s t m i → i ≤ m
     → decision_in v i ≡ (moment_of s (run_of s (t + i))).decided.decision
 decision-is v s t m i h within =
-    last-or v.decision decision.Stay (moment_of s (run_of s (t + i))).decided.decision
-    (length v.segment.steps) m i h.has_steps.count within
-    (λ same. h.decision_is
+    last-or v.last.decision decision.Stay (moment_of s (run_of s (t + i))).decided.decision
+    (length v.last.segment.steps) m i h.over.has_steps.count within
+    (λ same. h.over.decision_is
     ∙ ap (λ (n : ℕ). (moment_of s (run_of s (t + n))).decided.decision) (sym same))
     (λ below. sym (ap (λ (d : Decided). d.decision)
-    (nothing-decided s (run_of s (t + i)) (h.one.quiet i below))))
+    (nothing-decided s (run_of s (t + i)) (h.over.one.quiet i below))))
 
 alarms-are : (v : LinkView) (s : Plan) (t m i : ℕ) → HasSegment v s t m i → i ≤ m
     → alarms_in v i ≡ (moment_of s (run_of s (t + i))).decided.alarms
 alarms-are v s t m i h within =
-    last-or v.planning.rx.alarms [] (moment_of s (run_of s (t + i))).decided.alarms
-    (length v.segment.steps) m i h.has_steps.count within
-    (λ same. h.alarms_are
+    last-or v.last.alarms [] (moment_of s (run_of s (t + i))).decided.alarms
+    (length v.last.segment.steps) m i h.over.has_steps.count within
+    (λ same. h.over.alarms_are
     ∙ ap (λ (n : ℕ). (moment_of s (run_of s (t + n))).decided.alarms) (sym same))
     (λ below. sym (ap (λ (d : Decided). d.alarms)
-    (nothing-decided s (run_of s (t + i)) (h.one.quiet i below))))
+    (nothing-decided s (run_of s (t + i)) (h.over.one.quiet i below))))
 
 reset-is : (i : ℕ) (v : LinkView) (s : Plan) (t m : ℕ) → HasSegment v s t m i → i ≤ m
     → reset_in v i ≡ is_reset s Rx (t + i)
 reset-is zero v s t m h within =
     let z : t ≡ t + 0 = omega arith in
-    ap (λ (b : Bool). b && v.segment.rx_reset) (eq-eqb 0 0 refl) ∙ h.reset ∙ ap (is_reset s Rx) z
+    ap (λ (b : Bool). b && v.last.segment.rx_reset) (eq-eqb 0 0 refl) ∙ h.over.reset ∙ ap (is_reset s Rx) z
 reset-is (suc i) v s t m h within =
-    ap (λ (b : Bool). b && v.segment.rx_reset) (ne_eqb (suc i) 0 (λ z. omega arith))
-    ∙ sym (h.one.unreset (suc i) (omega arith) within).1
+    ap (λ (b : Bool). b && v.last.segment.rx_reset) (ne_eqb (suc i) 0 (λ z. omega arith))
+    ∙ sym (h.over.one.unreset (suc i) (omega arith) within).1
 
 -- whether a hunt begins in it
 abbrev pub hunt_in : LinkView → ℕ → Bool
-hunt_in v i = (get_or v.segment.steps i no_step).rx.hunt
+hunt_in v i = (get_or v.last.segment.steps i no_step).rx.hunt
 
 pub hunt-is : (v : LinkView) (s : Plan) (t m i : ℕ) → HasSegment v s t m i → i ≤ m
     → hunt_in v i ≡ (moment_of s (run_of s (t + i))).told.hunt
 hunt-is v s t m i h within =
-    ap (λ (x : Step). x.rx.hunt) (h.has_steps.steps_are i (omega arith))
+    ap (λ (x : Step). x.rx.hunt) (h.over.has_steps.steps_are i (omega arith))
 
 -- the link of a scenario is legal
 pub legal-link : (k : Link) (s : Plan) → k ≡ s.link → broken_law k.params ≡ None
@@ -127,9 +130,9 @@ left-over : (m i : ℕ) → i ≤ m → suc m - i ≡ suc (m - i)
 left-over m i within = omega arith
 
 pub cells-left : (v : LinkView) (s : Plan) (t m i : ℕ) → HasSegment v s t m i → i ≤ m
-    → HaveCells v.collecting.ends s (t + i) (suc (m - i))
+    → HaveWaiting v.collecting.waiting s (t + i) (suc (m - i))
 cells-left v s t m i h within =
-    subst (HaveCells v.collecting.ends s (t + i)) (left-over m i within) h.cells
+    subst (HaveWaiting v.collecting.waiting s (t + i)) (left-over m i within) h.cells
 
 pub can-collect : (v : LinkView) (s : Plan) (t m i : ℕ) → IsLegalLink s → HasSegment v s t m i
     → i ≤ m → CanCollect v.collecting (hunt_in v i) (runs_in v i)
@@ -138,9 +141,9 @@ can-collect v s t m i legal h within =
     let c = v.collecting in
     let past : History = run_of s (t + i) in
     let had = h.collected in
-    let count = had.end_count in (
+    let count = had.wait_count in (
       count ∙ ap (λ p. p.l) (sym had.gathered.same_params),
-      λ goes none lane e below.
+      λ goes none lane w below.
           let r = is-run (t + i) s legal.laws legal.timing in
           let runs = sym (runs-is v s t m i h within) ∙ goes in
           let hunts = hunt-is v s t m i h within in
@@ -148,9 +151,11 @@ can-collect v s t m i legal h within =
           let are = ahead-left s past c.lead c.ahead had.ahead_is in
           let first = had.lead_is in
           let late : lead s.link.params ≤ gives_in (session s past) = omega arith in
-          known-some (get_or c.ends lane e) s (t + i) (m - i) lane _
-          (cells-late s lane (t + i) r (omega arith) runs late)
-          (cells-left v s t m i h within lane e below),
+          let all = ap length (cells-left v s t m i h within lane w below
+          ∙ cells-first (m - i) s lane (t + i)
+          ∙ ap (λ (xs : List LaneCell). xs ++ cells_in s lane (suc (t + i)) (m - i))
+          (cells-late s lane (t + i) r (omega arith) runs late)) in
+          omega arith,
     )
 
 -- the segment with what was collected
@@ -162,8 +167,8 @@ pub is-seen : (v : LinkView) (c : Collecting) (s : Plan) (t m i : ℕ) → HasSe
     → IsSeen (seen_in v i) (alarms_in v i) c.gathering.frames c.gathering.at s (run_of s (t + i))
 is-seen v c s t m i h within took =
     let long = length-run (kind_of s.link.params) s (t + i) in
-    let edges = h.has_steps.edges_are i (omega arith) in
-    let step = h.has_steps.steps_are i (omega arith) in
+    let edges = h.over.has_steps.edges_are i (omega arith) in
+    let step = h.over.has_steps.steps_are i (omega arith) in
     record {
       rx_reset = reset-is i v s t m h within ∙ ap (is_reset s Rx) (sym long);
       tx_off = ap (λ (x : Edges). x.tx) edges ∙ ap (λ (n : ℕ). (edges_of s n).tx) (sym long);
@@ -177,48 +182,99 @@ is-seen v c s t m i h within took =
     }
 
 pub has-segment-next : (v : LinkView) (c : Collecting) (s : Plan) (t m i : ℕ)
-    → HasSegment v s t m i → i ≤ m → Collects c s (t + i) (m - i) → ArePairs v.lanes c.ends
+    → HasSegment v s t m i → i ≤ m → Collects c s (t + i) (m - i)
     → HasSegment (with_collecting v c) s t m (suc i)
-has-segment-next v c s t m i h within took pairs =
+has-segment-next v c s t m i h within took =
     let next : suc (t + i) ≡ t + suc i = omega arith in
     let less : m - i ≡ suc m - suc i = omega arith in
-    let z = h.ran.sized in
     record {
-      ran = record {
-        sized = record {
-          same_link = z.same_link;
-          same_planning = z.same_planning;
-          room = z.room;
-          pairs = pairs;
-        };
-        planned = h.ran.planned;
-        lanes = h.ran.lanes;
-        rings = h.ran.rings;
-        at_next = h.ran.at_next;
-      };
+      same_link = h.same_link;
+      over = h.over;
       within = omega arith;
-      has_steps = h.has_steps;
-      one = h.one;
-      reset = h.reset;
-      decision_is = h.decision_is;
-      alarms_are = h.alarms_are;
-      released_is = h.released_is;
       collected = subst (HasCollected c s) next took.has;
-      cells = subst (λ (n : ℕ). HaveCells c.ends s (t + suc i) n) less
-          (subst (λ (n : ℕ). HaveCells c.ends s n (m - i)) next took.cells);
+      cells = subst (λ (n : ℕ). HaveWaiting c.waiting s (t + suc i) n) less
+          (subst (λ (n : ℕ). HaveWaiting c.waiting s n (m - i)) next took.cells);
     }
 
--- the last tick of the segment was collected
-pub all-collected : (v : LinkView) (s : Plan) (t m i : ℕ) → HasSegment v s t m i → i ≡ suc m
-    → HasRun v s (t + suc m)
-all-collected v s t m i h all =
-    let none : suc m - i ≡ 0 = omega arith in
+-- ---- the ticks whose rows are due
+
+-- of the ticks from tick `from` on and before tick t the first i were collected
+pub record HasPart (now : LinkView) (s : Plan) (from t i : ℕ) : Type 0 where
+  pub same_link : now.link ≡ s.link
+  pub before : IsBefore now.last s from t
+  pub collected : HasCollected now.collecting s (from + i)
+  pub cells : HaveWaiting now.collecting.waiting s (from + i) (t - (from + i))
+
+pub part-none : (v : LinkView) (s : Plan) (from t : ℕ) → HasDue v s from t → HasPart v s from t 0
+part-none v s from t h =
+    let z : from ≡ from + 0 = omega arith in
     record {
-      ran = h.ran;
-      collected = subst (λ (n : ℕ). HasCollected v.collecting s (t + n)) all h.collected;
-      cells = subst (λ (n : ℕ). HaveCells v.collecting.ends s (t + n) 0) all
-          (subst (HaveCells v.collecting.ends s (t + i)) none h.cells);
+      same_link = h.same_link;
+      before = h.before;
+      collected = subst (HasCollected v.collecting s) z h.collected;
+      cells = subst (λ (n : ℕ). HaveWaiting v.collecting.waiting s n (t - n)) z h.waiting;
     }
+
+-- where one is still to come they are a segment
+pub part-segment : (v : LinkView) (s : Plan) (from t i : ℕ) → HasPart v s from t i → from + i < t
+    → (m : ℕ) × (t ≡ from + suc m) × HasSegment v s from m i
+part-segment v s from t i h below = elim h.before [
+  | inl none ↦ let end = none.end_is in absurd (omega arith)
+  | inr some ↦
+      let (m, segment) = some in
+      let end = segment.end_is in
+      let left : t - (from + i) ≡ suc m - i = omega arith in (
+        m,
+        end,
+        record {
+          same_link = h.same_link;
+          over = segment.over;
+          within = omega arith;
+          collected = h.collected;
+          cells = subst (HaveWaiting v.collecting.waiting s (from + i)) left h.cells;
+        },
+      )
+]
+
+pub part-next : (v now : LinkView) (s : Plan) (from t m i : ℕ) → HasPart v s from t i
+    → t ≡ from + suc m → now.last ≡ v.last → HasSegment now s from m (suc i)
+    → HasPart now s from t (i + 1)
+part-next v now s from t m i h end last more =
+    let next : from + suc i ≡ from + (i + 1) = omega arith in
+    let left : suc m - suc i ≡ t - (from + suc i) = omega arith in
+    record {
+      same_link = more.same_link;
+      before = subst (λ (e : Ended). IsBefore e s from t) (sym last) h.before;
+      collected = subst (HasCollected now.collecting s) next more.collected;
+      cells = subst (λ (n : ℕ). HaveWaiting now.collecting.waiting s n (t - n)) next
+          (subst (HaveWaiting now.collecting.waiting s (from + suc i)) left more.cells);
+    }
+
+-- all of them were collected
+pub part-all : (v : LinkView) (s : Plan) (from t i : ℕ) → HasPart v s from t i → from + i ≡ t
+    → HasAllTaken v s t
+part-all v s from t i h all =
+    let none : t - (from + i) ≡ 0 = omega arith in
+    record {
+      collected = subst (HasCollected v.collecting s) all h.collected;
+      none_waits = subst (λ (n : ℕ). HaveWaiting v.collecting.waiting s n 0) all
+          (subst (HaveWaiting v.collecting.waiting s (from + i)) none h.cells);
+    }
+
+-- they are as many as the segment has
+pub due-count : (v : LinkView) (s : Plan) (from t : ℕ) → IsBefore v.last s from t
+    → t ≡ from + length v.last.segment.steps
+due-count v s from t before = elim before [
+  | inl none ↦
+      let end = none.end_is in
+      let empty = ap length none.empty in
+      omega arith
+  | inr some ↦
+      let (m, segment) = some in
+      let end = segment.end_is in
+      let count = segment.over.has_steps.count in
+      omega arith
+]
 
 -- ---- the places of data
 
@@ -257,13 +313,13 @@ small-order p os some few = elim (cases_Bool (is_b p.mode)) [
 ]
 
 pub small-place : (v : LinkView) (s : Plan) (t m i : ℕ) → IsLegalLink s → HasSegment v s t m i
-    → i < suc m → IfSome (data_place (get_or v.segment.steps i no_step).tx) (λ x. x < 1024)
+    → i < suc m → IfSome (data_place (get_or v.last.segment.steps i no_step).tx) (λ x. x < 1024)
 unfolding order_of
 small-place v s t m i legal h within =
     let sizes = legal_sizes s.link.params legal.laws in
     let low = sizes.period_low in
     let past : History = run_of s (t + i) in
-    let is = ap (λ (x : Step). x.tx) (h.has_steps.steps_are i within)
+    let is = ap (λ (x : Step). x.tx) (h.over.has_steps.steps_are i within)
     ∙ order-next (kind_of s.link.params) s past in
     subst (λ o. IfSome (data_place o) (λ x. x < 1024)) (sym is)
     (small-order s.link.params (observed s past) (omega arith) sizes.period)
@@ -326,25 +382,25 @@ fullest-is lanes s given t count rings =
 
 -- ---- the lanes and the ends of a run
 
-pub have-run : (v : LinkView) (s : Plan) (t : ℕ) → HasRun v s t
-    → HaveRun v.lanes v.collecting.ends s t
+pub have-run : (v : LinkView) (s : Plan) (t : ℕ) → HasRunLanes v s t
+    → HaveCells v.collecting.ends s t 0 → HaveRun v.lanes v.collecting.ends s t
 unfolding cells_in
-have-run v s t h =
-    let count = h.ran.lanes.0 in
-    let ends = h.collected.end_count in
+have-run v s t h cells =
+    let count = h.lanes.0 in
+    let ends = h.sized.pairs.count in
     record {
       lane_count = count;
-      end_count = ends;
+      end_count = ends ∙ count;
       each_lane = λ lane d below.
-          let r = h.ran.rings lane d (omega arith) in
+          let r = h.rings lane d (omega arith) in
           record {
-            went = h.ran.lanes.1 lane d below;
+            went = h.lanes.1 lane d below;
             cells = r.cells;
             count = r.count;
             most = r.most;
           };
       each_end = λ lane e below.
-          let c = h.cells lane e (omega arith) in
+          let c = cells lane e (omega arith) in
           record { received_are = c.received_are; none_known = c.known_are };
-      pairs = λ lane d e below. h.ran.sized.pairs.each lane d e (omega arith);
+      pairs = λ lane d e below. h.sized.pairs.each lane d e (omega arith);
     }

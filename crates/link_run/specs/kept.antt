@@ -19,3 +19,4 @@ pub mod Segments
 pub mod Sendings
 pub mod TickCounts
 pub mod Transmitters
+pub mod Waits

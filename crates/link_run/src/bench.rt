@@ -61,7 +61,7 @@ impl Model for Bench {
     ghost invariant = { λ b. (b.scenario.link ≡ Some b.state.link) × (0 < b.workers)
         × (b.ran ≡ false → (b.report.params ≡ b.scenario.shape) × (b.report.totals ≡ no_totals)
         × (b.lines.words ≡ b.scenario.shape.m * b.scenario.shape.s) × (b.lines.bytes ≡ [])
-        × ((plan : Plan) → plan_of b.scenario ≡ Some plan → HasRun b.state plan 0)) };
+        × ((plan : Plan) → plan_of b.scenario ≡ Some plan → HasRun b.state plan 0 0)) };
 }
 
 impl Bench {

@@ -1,31 +1,34 @@
 //! The cells of the lanes, joined to frames.
 ghost use Rattle.std.specs.Prelude.{◌≡◌, ◌≤◌, ◌<◌, ◌+◌, [], List, ℕ, suc, Option, length, get_or, map, if◌then◌else◌, IfOk};
-ghost use Rattle.rtrb.specs.Ring.{known_items};
 ghost use Rattle.link_params.specs.declared.fields.Params.{Params as ParamsValue};
 ghost use Rattle.link_model.specs.kept.LaneRuns.{LaneRun};
 ghost use Rattle.bring_up.specs.Decisions.{is_running};
 ghost use Rattle.scenario.specs.Plans.{Plan};
 ghost use Rattle.link_model.specs.Kinds.{moment_of, run_of};
 ghost use Rattle.link_model.specs.kept.Before.{Columns};
-ghost use Rattle.lane_threads.specs.declared.cell_end.CellEnd.{CellEnd as EndValue};
 ghost use Rattle.lane_threads.specs.declared.lane_pair.LanePair.{LanePair as PairValue};
 ghost use Rattle.link_run.specs.kept.Collected.{CanCollect, Collects, HasCollected, IsLegalLink, lead_of};
-ghost use Rattle.link_run.specs.kept.Ends.{ArePairs, HaveCells, HavePopped, next_cell};
+ghost use Rattle.link_run.specs.kept.Ends.{ArePairs, HaveCells};
+ghost use Rattle.link_run.specs.kept.Waits.{AreFilled, AreNext, HaveRoom, HaveWaiting, Waits, next_of};
+ghost use Rattle.link_params.specs.Numbers.{period};
 ghost use Rattle.link_run.specs.kept.Gathered.{HasGathered};
 ghost use Rattle.link_run.specs.kept.LaneRuns.{AreAt, HaveRings, HaveRunLanes};
 
 use crate::deframer::Deframer;
 use crate::lanes::Lanes;
+use crate::waiting::Waiting;
 use jesd_base::NoMemory;
-use lane_threads::CellEnd;
-use link_params::{LaneCell, Link, Mode};
+use lane_threads::{CellEnd, Side};
+use link_params::{LaneCell, Link, Mode, Shape};
 use std::alloc::Global;
 use std::marker::Model;
 
-/// The ends of the lanes' rings, and the frame that is gathered from their cells.
+/// The ends of the lanes' rings, the cells that were taken from them, and the frame that is gathered
+/// from these.
 #[derive(Drop)]
 pub struct Collector {
     ends: Vec<CellEnd>,
+    waiting: Vec<Waiting>,
     // The entries of a session that are places of the alignment sequence, and those that are still
     // to come.
     lead: u32,
@@ -42,12 +45,14 @@ impl Model for Collector {
 
     ghost view = { λ c. record {
       ends = c.ends.items;
+      waiting = c.waiting.items;
       lead = c.lead;
       ahead = c.ahead;
       gathering = c.deframer;
     } };
 
-    ghost invariant = { λ c. (length c.given.items ≡ c.deframer.params.l) × (c.ahead ≤ c.lead) };
+    ghost invariant = { λ c. (length c.given.items ≡ c.deframer.params.l)
+        × (length c.waiting.items ≡ length c.ends.items) × (c.ahead ≤ c.lead) };
 }
 
 impl Collector {
@@ -57,6 +62,7 @@ impl Collector {
         requires ends { length ends.items ≡ link.now.params.l }
         ensures begins { (s : Plan) → s.link ≡ link.now → IfOk result (λ c. HasCollected c s 0) }
         ensures ends { IfOk result (λ c. c.ends ≡ ends.items) }
+        ensures empty { (s : Plan) (t : ℕ) → IfOk result (λ c. HaveWaiting c.waiting s t 0) }
     {
         let shape = link.shape();
         let Ok(given) = vec![in alloc; None; shape.lanes() as usize] else {
@@ -65,6 +71,7 @@ impl Collector {
         let lead = lead_of(link);
         Ok(Collector {
             ends,
+            waiting: open_waiting(alloc, &shape)?,
             lead,
             ahead: lead,
             given,
@@ -76,11 +83,10 @@ impl Collector {
     pub fn take(&mut self, hunt: bool, runs: bool)
         requires can { CanCollect self.old hunt runs }
         ensures took { (s : Plan) (t n : ℕ) → IsLegalLink s → HasCollected self.old s t
-            → HaveCells self.old.ends s t (suc n)
+            → HaveWaiting self.old.waiting s t (suc n)
             → hunt ≡ (moment_of s (run_of s t)).told.hunt
             → runs ≡ is_running (moment_of s (run_of s t)).stage → Collects self.new s t n }
-        ensures pairs { (lanes : List PairValue) → ArePairs lanes self.old.ends
-            → ArePairs lanes self.new.ends }
+        ensures ends { self.new.ends ≡ self.old.ends }
     {
         self.begin(hunt);
         if !runs {
@@ -89,7 +95,7 @@ impl Collector {
             self.ahead -= 1;
             self.deframer.rest();
         } else {
-            pop_each(self.ends.as_mut_slice(), self.given.as_mut_slice());
+            take_each(self.waiting.as_mut_slice(), self.given.as_mut_slice());
             self.deframer.take(&self.given);
         }
     }
@@ -144,17 +150,51 @@ impl Collector {
     }
 }
 
-// The next cell of each lane.
-fn pop_each(ends: &mut [CellEnd], given: &mut [Option<LaneCell>])
-    requires count { length given.old ≡ length ends.old }
-    requires known { (lane : ℕ) (e : EndValue) → lane < length ends.old
-        → 0 < length (known_items (get_or ends.old lane e).ring) }
-    ensures given { given.new ≡ map next_cell ends.old }
-    ensures popped { HavePopped ends.old ends.new }
+impl Side for Collector {
+    ghost runs = { λ a b. (b ≡ record a { ends = b.ends; waiting = b.waiting })
+        × AreFilled a.waiting b.waiting a.ends b.ends };
+
+    fn run(&mut self) {
+        fill_each(self.waiting.as_mut_slice(), self.ends.as_mut_slice());
+    }
+}
+
+// Takes the cells that are known to be at the end of each lane's ring.
+fn fill_each(waiting: &mut [Waiting], ends: &mut [CellEnd])
+    requires count { length waiting.old ≡ length ends.old }
+    ensures { AreFilled waiting.old waiting.new ends.old ends.new }
 {
     for (lane, end) in ends.iter_mut().enumerate() {
-        given[lane] = Some(end.pop());
+        waiting[lane].fill(end);
     }
+}
+
+// The next cell of each lane.
+fn take_each(waiting: &mut [Waiting], given: &mut [Option<LaneCell>])
+    requires count { length given.old ≡ length waiting.old }
+    requires some { (lane : ℕ) (w : Waits) → lane < length waiting.old
+        → 0 < length (get_or waiting.old lane w).cells }
+    ensures given { given.new ≡ map next_of waiting.old }
+    ensures taken { AreNext waiting.old waiting.new }
+{
+    for (lane, cells) in waiting.iter_mut().enumerate() {
+        given[lane] = Some(cells.next());
+    }
+}
+
+// Room for the cells of a period of each lane.
+fn open_waiting(alloc: Global, shape: &Shape) -> Result<Vec<Waiting>, NoMemory>
+    ensures count { IfOk result (λ v. length v.items ≡ shape.now.l) }
+    ensures empty { (s : Plan) (t : ℕ) → IfOk result (λ v. HaveWaiting v.items s t 0) }
+    ensures room { IfOk result (λ v. HaveRoom v.items (period shape.now)) }
+{
+    let mut waiting = Vec::new(alloc);
+    for _ in 0..shape.lanes() {
+        if waiting.push(Waiting::open(alloc, shape.period())?).is_err() {
+            return Err(NoMemory);
+        }
+    }
+    Ok(waiting)
 }
 
 // The entries of a lane that are places of the alignment sequence (JESD204B.01 clause 5.3.3.5,

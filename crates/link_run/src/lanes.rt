@@ -18,7 +18,7 @@ ghost use Rattle.link_run.specs.kept.Segments.{CanCarry, CanGive, IsCarried};
 use crate::flips::inverted_bits;
 use crate::segment::Segment;
 use jesd_base::NoMemory;
-use lane_threads::{CellEnd, Gate, LanePair, NoSide, meet, open_line, run_segment};
+use lane_threads::{CellEnd, Gate, LanePair, Side, meet, open_line, run_segment};
 use link_params::{LaneReport, Link};
 use scenario::Flip;
 use std::alloc::Global;
@@ -98,13 +98,14 @@ impl Lanes {
         }
     }
 
-    /// Each lane runs the segment, on at most so many workers.
-    pub fn carry<R: Threads + Sync, G: Gate>(
+    /// Each lane runs the segment, on at most so many workers, and beside them the side runs once.
+    pub fn carry<R: Threads + Sync, G: Gate, D: Side>(
         &mut self,
         rt: &R,
         workers: u32,
         segment: &Segment,
         gate: &G,
+        side: &mut D,
     )
         requires workers { 0 < workers }
         requires can { CanCarry self.old segment.now }
@@ -114,6 +115,7 @@ impl Lanes {
             × HaveRings self.new s (t + m) (t + suc m)
             × AreAt self.new s.link.params last }
         ensures rings { AreOnRings self.old self.new }
+        ensures side { D.runs side.old side.new }
     {
         run_segment(
             rt,
@@ -122,7 +124,7 @@ impl Lanes {
             segment.steps(),
             segment.gives(),
             gate,
-            &mut NoSide,
+            side,
         );
     }
 

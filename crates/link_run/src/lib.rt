@@ -13,6 +13,7 @@ mod collector;
 mod deframer;
 mod device_clock;
 mod edges;
+mod ended;
 mod events;
 mod feed;
 mod flips;
@@ -44,6 +45,7 @@ mod text_rows;
 mod ticked;
 mod transmitter;
 mod tx_tick;
+mod waiting;
 
 pub use bench::{Bench, Played};
 pub use frame_list::FrameList;

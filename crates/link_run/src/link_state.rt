@@ -1,16 +1,18 @@
 //! Both ends of a link, and the lanes between them.
-ghost use Rattle.std.specs.Prelude.{◌≡◌, ◌≤◌, ◌<◌, ◌==◌, ◌+◌, ◌*◌, [], ℕ, suc, length, fold, map, max, if◌then◌else◌, Option, None, Some, All, IfOk, IfSome};
+ghost use Rattle.std.specs.Prelude.{◌≡◌, ◌≤◌, ◌<◌, ◌==◌, ◌+◌, ◌*◌, ◌^◌, [], ℕ, suc, length, fold, map, max, if◌then◌else◌, Option, None, Some, All, IfOk, IfSome};
 ghost use Rattle.link_params.specs.declared.fields.Params.{Params as ParamsValue};
 ghost use Rattle.scenario.specs.Plans.{Plan, plan_of};
 ghost use Rattle.link_model.specs.Kinds.{run_of};
 ghost use Rattle.link_model.specs.kept.LaneRuns.{LaneRun};
+ghost use Rattle.link_run.specs.kept.Ends.{ArePairs, HaveCells};
 ghost use Rattle.link_run.specs.kept.Gathered.{Whole};
 ghost use Rattle.link_run.specs.kept.LaneRuns.{AreAt, HaveRunLanes, KeepRings};
-ghost use Rattle.link_run.specs.kept.LinkStates.{HasCarriedOn, HasEnded, HasHappened, HasRun, HasSegment, alarms_in, decision_in, reset_in, runs_in, seen_in};
+ghost use Rattle.link_run.specs.kept.LinkStates.{HasCarriedOn, HasEnded, HasFinished, HasHappened, HasNext, HasReportedBefore, HasRun, HasRunLanes, HasSegment, alarms_in, decision_in, reset_in, runs_in, seen_in};
 ghost use Rattle.link_run.specs.kept.Reported.{IsSeen};
 
 use crate::collector::Collector;
 use crate::deframer::Deframer;
+use crate::ended::Ended;
 use crate::events::happen;
 use crate::happened::Happened;
 use crate::lanes::Lanes;
@@ -20,11 +22,12 @@ use crate::ticked::Ticked;
 use crate::transmitter::data_place;
 use bring_up::{AlarmRow, Decision};
 use jesd_base::NoMemory;
-use lane_threads::{CellEnd, Gate, LanePair};
+use lane_threads::{CellEnd, Gate, LanePair, Side};
 use link_params::Link;
 use scenario::Scenario;
 use std::alloc::Global;
 use std::marker::Model;
+use std::mem::swap;
 use std::thread::Threads;
 
 /// Both ends of a link, and the lanes between them.
@@ -33,11 +36,9 @@ pub struct LinkState {
     link: Link,
     planner: Planner,
     lanes: Lanes,
-    // The segment that ran last, what the receiver decided at its end, and whether the link runs
-    // after it.
-    segment: Segment,
-    decision: Decision,
-    released: bool,
+    // The segment that ran last, and the one before it, whose rows are due.
+    latest: Ended,
+    last: Ended,
     collector: Collector,
     no_alarms: AlarmRow,
 }
@@ -52,10 +53,8 @@ impl Model for LinkState {
       link = l.link;
       planning = l.planner;
       lanes = l.lanes;
-      segment = l.segment;
-      decision =
-          l.decision;
-      released = l.released;
+      latest = l.latest;
+      last = l.last;
       collecting = l.collector;
     } };
 
@@ -63,29 +62,29 @@ impl Model for LinkState {
 }
 
 impl LinkState {
-    /// Both ends of this link, and its lanes, before the first tick. All memory of the run but that
-    /// of its text is taken here; `NoMemory` where there is too little of it.
+    /// Both ends of this link, and its lanes, before the first tick. All memory of the run is taken
+    /// here; `NoMemory` where there is too little of it.
     pub fn open(alloc: Global, s: &Scenario, link: &Link) -> Result<LinkState, NoMemory>
         requires link { s.now.link ≡ Some link.now }
         ensures stands { (plan : Plan) → plan_of s.now ≡ Some plan
-            → IfOk result (λ l. HasRun l plan 0) }
+            → IfOk result (λ l. HasRun l plan 0 0) }
         ensures same { IfOk result (λ l. l.link ≡ link.now) }
     {
         let (lanes, ends) = Lanes::open(alloc, link, s.flips.as_slice(), s.ticks)?;
+        let period = link.shape().period();
         Ok(LinkState {
             link: *link,
             planner: Planner::open(alloc, s, link)?,
             lanes,
-            segment: Segment::open(alloc, link.shape().period())?,
-            decision: Decision::Stay,
-            released: false,
+            latest: open_segment(alloc, period)?,
+            last: open_segment(alloc, period)?,
             collector: Collector::open(alloc, link, ends)?,
             no_alarms: AlarmRow::new(),
         })
     }
 
-    /// Runs the segment that begins with tick `t`, its lanes on at most so many workers: how many
-    /// ticks it has.
+    /// Runs the segment that begins with tick `t`, its lanes on at most so many workers, and takes
+    /// the cells of the segment before beside it. How many ticks it has.
     pub fn run<R: Threads + Sync, G: Gate>(
         &mut self,
         rt: &R,
@@ -97,30 +96,66 @@ impl LinkState {
         requires tick { t < s.now.ticks }
         requires link { s.now.link ≡ Some self.old.link }
         requires workers { 0 < workers }
-        requires stands { (plan : Plan) → plan_of s.now ≡ Some plan → HasRun self.old plan t }
-        ensures ran { (plan : Plan) → plan_of s.now ≡ Some plan
-            → (m : ℕ) × (result ≡ suc m) × HasSegment self.new plan t m 0 }
+        requires stands { (plan : Plan) → plan_of s.now ≡ Some plan
+            → (from : ℕ) × HasRun self.old plan from t }
+        ensures ran { (plan : Plan) (from : ℕ) → plan_of s.now ≡ Some plan → HasRun self.old plan from t
+            → (m : ℕ) × (result ≡ suc m) × HasNext self.new plan from t m }
         ensures some { 0 < result }
         ensures within { t + result ≤ s.now.ticks }
         ensures same { self.new.link ≡ self.old.link }
     {
         let _shape = self.link.shape();
         let _timing = self.link.timing();
+        self.meet();
         let happened = self.happen(s, t);
-        let (lanes, segment) = (&mut self.lanes, &mut self.segment);
+        let (lanes, segment) = (&mut self.lanes, &mut self.latest.segment);
         self.planner.plan(s, t, &happened, lanes, segment);
-        self.lanes.carry(rt, workers, &self.segment, gate);
-        let count = self.segment.len() as u32;
+        let segment = &self.latest.segment;
+        self.lanes.carry(rt, workers, segment, gate, &mut self.collector);
+        let count = self.latest.segment.len() as u32;
         self.end(s, t + (count - 1));
-        self.collector.meet(&mut self.lanes);
         count
+    }
+
+    /// The segment that ran last is the one whose rows are due next.
+    pub fn turn(&mut self)
+        ensures turned { (s : Plan) (t m : ℕ) → HasReportedBefore self.old s t m
+            → HasRun self.new s t (t + suc m) }
+        ensures same { self.new.link ≡ self.old.link }
+    {
+        swap(&mut self.latest, &mut self.last);
+    }
+
+    /// The run is over: the cells of its last segment are taken.
+    pub fn finish(&mut self)
+        requires pairs { ArePairs self.old.lanes self.old.collecting.ends }
+        ensures finished { (s : Plan) (from t : ℕ) → HasRun self.old s from t
+            → HasFinished self.new s from t }
+        ensures same { self.new.link ≡ self.old.link }
+    {
+        self.meet();
+        self.collector.run();
+    }
+
+    // The ends of the rings know of all that the lanes gave.
+    fn meet(&mut self)
+        requires pairs { ArePairs self.old.lanes self.old.collecting.ends }
+        ensures ran { (s : Plan) (t : ℕ) → HasRunLanes self.old s t → HasRunLanes self.new s t }
+        ensures knows { (s : Plan) (t n : ℕ) → HasRunLanes self.old s (t + n)
+            → HaveCells self.old.collecting.ends s t 0 → HaveCells self.new.collecting.ends s t n }
+        ensures same { self.new ≡ record self.old {
+          lanes = self.new.lanes;
+          collecting = record self.old.collecting { ends = self.new.collecting.ends };
+        } }
+    {
+        self.collector.meet(&mut self.lanes);
     }
 
     // The events of tick `t` happen.
     fn happen(&mut self, s: &Scenario, t: u32) -> Happened
         requires tick { t < s.now.ticks }
         requires link { s.now.link ≡ Some self.old.link }
-        requires stands { (plan : Plan) → plan_of s.now ≡ Some plan → HasRun self.old plan t }
+        requires stands { (plan : Plan) → plan_of s.now ≡ Some plan → HasRunLanes self.old plan t }
         ensures { (plan : Plan) → plan_of s.now ≡ Some plan
             → HasHappened result self.old self.new plan t }
     {
@@ -140,24 +175,24 @@ impl LinkState {
         ensures same { self.new ≡ record self.old {
           planning = self.new.planning;
           lanes = self.new.lanes;
-          decision =
-              self.new.decision;
-          released = self.new.released;
+          latest = record self.new.latest { segment = self.old.latest.segment };
         } }
     {
         let _shape = self.link.shape();
         let _timing = self.link.timing();
-        self.decision = self.planner.end(s, t, &self.lanes, self.segment.decides());
-        self.released = self.planner.is_released();
-        if self.released {
+        let decides = self.latest.segment.decides();
+        self.latest.decision = self.planner.end(s, t, &self.lanes, decides);
+        self.planner.take_alarms(&mut self.latest.alarms);
+        self.latest.released = self.planner.is_released();
+        if self.latest.released {
             self.lanes.give();
         }
     }
 
-    /// Takes what the lanes gave in tick `i` of the segment that ran last; the ticks before it were
-    /// taken.
+    /// Takes what the lanes gave in tick `i` of the segment whose rows are due; the ticks before it
+    /// were taken.
     pub fn collect(&mut self, i: usize) -> Ticked
-        requires inside { i < length self.old.segment.steps }
+        requires inside { i < length self.old.last.segment.steps }
         requires has { (s : Plan) × (t : ℕ) × (m : ℕ) × HasSegment self.old s t m i }
         ensures seen { (s : Plan) (t m : ℕ) → HasSegment self.old s t m i → i ≤ m
             → IsSeen result (alarms_in self.old i) self.new.collecting.gathering.frames self.new.collecting.gathering.at s (run_of s (t + i)) }
@@ -167,23 +202,24 @@ impl LinkState {
             × (self.new.collecting.gathering.at ≤ 256) }
         ensures place { IfSome result.place (λ x. x < 1024) }
         ensures same { self.new ≡ record self.old { collecting = self.new.collecting } }
+        ensures ends { self.new.collecting.ends ≡ self.old.collecting.ends }
     {
         let _shape = self.link.shape();
         let _timing = self.link.timing();
         let seen = self.seen(i);
-        let hunt = self.segment.steps()[i].rx.hunt;
+        let hunt = self.last.segment.steps()[i].rx.hunt;
         let runs = self.runs(i);
         self.collector.take(hunt, runs);
         seen
     }
 
-    // What is seen of tick `i` of the segment that ran last.
+    // What is seen of tick `i` of the segment whose rows are due.
     fn seen(&self, i: usize) -> Ticked
-        requires inside { i < length self.now.segment.steps }
-        requires edges { i < length self.now.segment.edges }
+        requires inside { i < length self.now.last.segment.steps }
+        requires edges { i < length self.now.last.segment.edges }
         ensures { result ≡ seen_in self.now i }
     {
-        let (step, edges) = (self.segment.steps()[i], self.segment.edges()[i]);
+        let (step, edges) = (self.last.segment.steps()[i], self.last.segment.edges()[i]);
         Ticked {
             rx_reset: self.is_reset(i),
             tx_off: edges.tx,
@@ -197,56 +233,64 @@ impl LinkState {
     fn is_reset(&self, i: usize) -> bool
         ensures { result ≡ reset_in self.now i }
     {
-        i == 0 && self.segment.rx_reset()
+        i == 0 && self.last.segment.rx_reset()
     }
 
     // Whether it is the last one of its segment.
     fn is_last(&self, i: usize) -> bool
-        requires inside { i < length self.now.segment.steps }
-        ensures { result ≡ (i + 1 == length self.now.segment.steps) }
+        requires inside { i < length self.now.last.segment.steps }
+        ensures { result ≡ (i + 1 == length self.now.last.segment.steps) }
     {
-        let count = self.segment.len();
+        let count = self.last.segment.len();
         i + 1 == count
     }
 
     // Whether the link runs after it.
     fn runs(&self, i: usize) -> bool
-        requires inside { i < length self.now.segment.steps }
+        requires inside { i < length self.now.last.segment.steps }
         ensures { result ≡ runs_in self.now i }
     {
         if self.is_last(i) {
-            self.released
+            self.last.released
         } else {
-            self.segment.gives()
+            self.last.segment.gives()
         }
     }
 
     // What the receiver decided in it.
     fn decision(&self, i: usize) -> Decision
-        requires inside { i < length self.now.segment.steps }
+        requires inside { i < length self.now.last.segment.steps }
         ensures { result ≡ decision_in self.now i }
     {
         if self.is_last(i) {
-            self.decision
+            self.last.decision
         } else {
             Decision::Stay
         }
     }
 
-    /// The alarms of the decision in tick `i` of the segment that ran last.
+    /// The alarms of the decision in tick `i` of the segment whose rows are due.
     pub fn alarms(&self, i: usize) -> &AlarmRow
-        requires inside { i < length self.now.segment.steps }
+        requires inside { i < length self.now.last.segment.steps }
         ensures alarms { result.now ≡ alarms_in self.now i }
         ensures few { length result.now ≤ 34 }
     {
         if self.is_last(i) {
-            let alarms = self.planner.alarms();
+            let alarms = &self.last.alarms;
             // This call's clause says that a row has at most 34 alarms.
             let _count = alarms.len();
             alarms
         } else {
             &self.no_alarms
         }
+    }
+
+    /// How many ticks the segment has whose rows are due.
+    pub fn due(&self) -> u32
+        requires { length self.now.last.segment.steps < 2 ^ 32 }
+        ensures { result ≡ length self.now.last.segment.steps }
+    {
+        self.last.segment.len() as u32
     }
 
     /// The frames that were delivered in the last tick, oldest first, and how many octets of each
@@ -277,6 +321,19 @@ impl LinkState {
     {
         self.collector.ends()
     }
+}
+
+// A segment without ticks, with room for so many; `NoMemory` where there is none.
+fn open_segment(alloc: Global, room: u32) -> Result<Ended, NoMemory>
+    ensures room { IfOk result (λ e. e.segment.room ≡ room) }
+    ensures empty { IfOk result (λ e. e.segment.steps ≡ []) }
+{
+    Ok(Ended {
+        segment: Segment::open(alloc, room)?,
+        decision: Decision::Stay,
+        alarms: AlarmRow::new(),
+        released: false,
+    })
 }
 
 fn clear_if(lanes: &mut Lanes, reset: bool)

@@ -225,11 +225,12 @@ impl Planner {
         self.rx.is_run()
     }
 
-    /// The alarms of the last decision.
-    pub fn alarms(&self) -> &AlarmRow
-        ensures { result.now ≡ self.now.rx.alarms }
+    /// Hands out the alarms of the last decision, in place of these.
+    pub fn take_alarms(&mut self, alarms: &mut AlarmRow)
+        ensures alarms { alarms.new ≡ self.old.rx.alarms }
+        ensures same { self.new ≡ record self.old { rx = record self.old.rx { alarms = alarms.old } } }
     {
-        self.rx.alarms()
+        self.rx.take_alarms(alarms);
     }
 }
 

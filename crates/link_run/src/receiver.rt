@@ -27,6 +27,7 @@ use link_params::{Device, IlasState, LaneReport, Link, RxOrder};
 use scenario::Scenario;
 use std::alloc::Global;
 use std::marker::Model;
+use std::mem::swap;
 
 /// The receiver's clock and its control.
 #[derive(Drop)]
@@ -150,14 +151,12 @@ impl Receiver {
         self.control.decide(&self.reports, &mut self.alarms)
     }
 
-    /// The alarms of the last tick's decision.
-    pub fn alarms(&self) -> &AlarmRow
-        ensures alarms { result.now ≡ self.now.alarms }
-        ensures few { length result.now ≤ 34 }
+    /// Hands out the alarms of the last tick's decision, in place of these.
+    pub fn take_alarms(&mut self, alarms: &mut AlarmRow)
+        ensures alarms { alarms.new ≡ self.old.alarms }
+        ensures same { self.new ≡ record self.old { alarms = alarms.old } }
     {
-        // This call's clause says that a row has at most 34 alarms.
-        let _count = self.alarms.len();
-        &self.alarms
+        swap(&mut self.alarms, alarms);
     }
 
     /// Whether the link runs, in a tick in which nothing is decided yet.

@@ -1,8 +1,7 @@
 -- What the ends of the lanes' rings received and know of.
 -- Code: a list of ends.
-use Rattle.std.specs.Prelude.{◌≡◌, ◌<◌, ℕ, List, [], ◌∷◌, ◌++◌, length, get_or, Option, None, Some}
-use Rattle.rtrb.specs.Ring.{SameConsumer, known_items, received}
-use Rattle.link_params.specs.declared.cells.LaneCell.{LaneCell}
+use Rattle.std.specs.Prelude.{◌≡◌, ◌<◌, ℕ, List, length, get_or}
+use Rattle.rtrb.specs.Ring.{known_items, received}
 use Rattle.scenario.specs.Plans.{Plan}
 use Rattle.lane_threads.specs.declared.cell_end.CellEnd.{CellEnd}
 use Rattle.lane_threads.specs.declared.lane_pair.LanePair.{LanePair}
@@ -24,24 +23,3 @@ pub record HasCells (end : CellEnd) (s : Plan) (t n lane : ℕ) : Type 0 where
 abbrev pub HaveCells : List CellEnd → Plan → ℕ → ℕ → Type 0
 HaveCells ends s t n = (lane : ℕ) (e : CellEnd) → lane < length ends
     → HasCells (get_or ends lane e) s t n lane
-
--- the next cell that is known to be there
-abbrev pub first_of : List LaneCell → Option LaneCell
-first_of [] = None
-first_of (x ∷ xs) = Some x
-
-abbrev pub next_cell : CellEnd → Option LaneCell
-next_cell end = first_of (known_items end.ring)
-
--- a cell was taken from an end
-pub record IsPopped (old now : CellEnd) : Type 0 where
-  pub cell : LaneCell
-  pub known_before : known_items old.ring ≡ cell ∷ known_items now.ring
-  pub received_too : received now.ring ≡ received old.ring ++ cell ∷ []
-  pub ring : SameConsumer old.ring now.ring
-
--- the next one was taken from each end
-pub record HavePopped (old now : List CellEnd) : Type 0 where
-  pub count : length now ≡ length old
-  pub each : (lane : ℕ) (e : CellEnd) → lane < length old
-      → IsPopped (get_or old lane e) (get_or now lane e)

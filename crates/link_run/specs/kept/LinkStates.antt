@@ -1,6 +1,6 @@
 -- What both ends of a link and the lanes between them keep of a run.
 -- Code: both devices, a list of lanes, a segment of ticks, and one frame.
-use Rattle.std.specs.Prelude.{◌≡◌, ◌≤◌, ℕ, suc, ◌+◌, ◌-◌, ◌==◌, ◌&&◌, Bool, if◌then◌else◌, List, [], get_or, length, None}
+use Rattle.std.specs.Prelude.{◌≡◌, ◌≤◌, ◌⊎◌, ℕ, suc, ◌+◌, ◌-◌, ◌==◌, ◌&&◌, Bool, if◌then◌else◌, List, [], get_or, length, None}
 use Rattle.link_params.specs.declared.alarms.Alarm.{Alarm}
 use Rattle.link_params.specs.declared.alarms.Device.TheVariants.{Tx, Rx}
 use Rattle.link_params.specs.Links.{Link}
@@ -9,6 +9,7 @@ use Rattle.bring_up.specs.declared.stage.Decision.{Decision}
 use Rattle.bring_up.specs.declared.stage.Decision.TheVariants as decision
 use Rattle.bring_up.specs.Decisions.{is_running}
 use Rattle.scenario.specs.Plans.{Plan}
+use Rattle.link_run.specs.declared.ended.Ended.{Ended}
 use Rattle.link_run.specs.declared.happened.Happened.{Happened}
 use Rattle.link_run.specs.declared.ticked.Ticked.{Ticked}
 use Rattle.link_model.specs.Edges.{is_reset}
@@ -25,23 +26,24 @@ use Rattle.link_run.specs.kept.Segments.{HasPlanned, HasSteps, IsOneSegment, Pla
 use Rattle.link_run.specs.kept.ReceiverRuns.{HasToldTick}
 use Rattle.link_run.specs.kept.Sendings.{next_of}
 use Rattle.link_run.specs.kept.Transmitters.{HasSentTick}
+use Rattle.link_run.specs.kept.Waits.{HaveWaiting}
 
--- the link, both devices, the lanes, the segment that ran last with what the receiver decided at
--- its end and whether the link runs after it, and what is collected of its cells
+-- the link, both devices, the lanes, the segment that ran last, the one before it, and what is
+-- collected of its cells
 pub record LinkView : Type 0 where
   pub link : Link
   pub planning : Planning
   pub lanes : List LanePair
-  pub segment : Planned
-  pub decision : Decision
-  pub released : Bool
+  pub latest : Ended
+  pub last : Ended
   pub collecting : Collecting
 
 -- the link and its segment have the sizes of the plan
 pub record IsSized (now : LinkView) (s : Plan) : Type 0 where
   pub same_link : now.link ≡ s.link
   pub same_planning : now.planning.link ≡ s.link
-  pub room : period s.link.params ≤ now.segment.room
+  pub room : period s.link.params ≤ now.latest.segment.room
+  pub last_room : period s.link.params ≤ now.last.segment.room
   pub pairs : ArePairs now.lanes now.collecting.ends
 
 -- the lanes have run the first t ticks, the devices stand behind them
@@ -52,11 +54,35 @@ pub record HasRunLanes (now : LinkView) (s : Plan) (t : ℕ) : Type 0 where
   pub rings : HaveRings now.lanes s t t
   pub at_next : AreAt now.lanes s.link.params (next_of s.link.params now.planning.tx.sending)
 
--- and all that they gave was collected
-pub record HasRun (now : LinkView) (s : Plan) (t : ℕ) : Type 0 where
+-- ticks t to t + m, a segment, are over
+pub record IsOver (now : Ended) (s : Plan) (t m : ℕ) : Type 0 where
+  pub has_steps : HasSteps now.segment s t (suc m)
+  pub one : IsOneSegment now.segment.gives s t m
+  pub reset : now.segment.rx_reset ≡ is_reset s Rx t
+  pub decision_is : now.decision ≡ (moment_of s (run_of s (t + m))).decided.decision
+  pub alarms_are : now.alarms ≡ (moment_of s (run_of s (t + m))).decided.alarms
+  pub released_is : now.released ≡ is_running (moment_of s (run_of s (t + m))).stage
+
+-- the ticks from tick `from` on and before tick t: a segment that is over, or none
+pub record IsSegment (now : Ended) (s : Plan) (from t m : ℕ) : Type 0 where
+  pub end_is : t ≡ from + suc m
+  pub over : IsOver now s from m
+
+pub record IsNothing (now : Ended) (from t : ℕ) : Type 0 where
+  pub end_is : t ≡ from
+  pub empty : now.segment.steps ≡ []
+
+abbrev pub IsBefore : Ended → Plan → ℕ → ℕ → Type 0
+IsBefore now s from t = IsNothing now from t ⊎ ((m : ℕ) × IsSegment now s from t m)
+
+-- the lanes have run the first t ticks; those before tick `from` were collected, and the others are
+-- the segment whose rows are due
+pub record HasRun (now : LinkView) (s : Plan) (from t : ℕ) : Type 0 where
   pub ran : HasRunLanes now s t
-  pub collected : HasCollected now.collecting s t
-  pub cells : HaveCells now.collecting.ends s t 0
+  pub before : IsBefore now.last s from t
+  pub collected : HasCollected now.collecting s from
+  pub cells : HaveCells now.collecting.ends s from 0
+  pub none_waits : HaveWaiting now.collecting.waiting s from 0
 
 -- the events of tick t have happened
 pub record HasHappened (x : Happened) (old now : LinkView) (s : Plan) (t : ℕ) : Type 0 where
@@ -83,7 +109,7 @@ pub record WasPlanned (now : Planned) (after : Planning) (s : Plan) (t m : ℕ) 
 -- the lanes have sent and taken ticks t to t + m
 pub record HasCarriedOn (now : LinkView) (s : Plan) (t m : ℕ) : Type 0 where
   pub sized : IsSized now s
-  pub planned : WasPlanned now.segment now.planning s t m
+  pub planned : WasPlanned now.latest.segment now.planning s t m
   pub lanes : HaveRunLanes now.lanes s (lane_stepped (kind_of s.link.params) s (run_of s (t + m)))
   pub rings : HaveRings now.lanes s (t + m) (t + suc m)
   pub at_next : AreAt now.lanes s.link.params (next_of s.link.params now.planning.tx.sending)
@@ -95,46 +121,78 @@ pub record HasEnded (now : LinkView) (s : Plan) (t m : ℕ) : Type 0 where
   pub rings : HaveRings now.lanes s (t + suc m) (t + suc m)
   pub pairs : ArePairs now.lanes now.collecting.ends
   pub at_next : AreAt now.lanes s.link.params (next_of s.link.params now.planning.tx.sending)
-  pub decision_is : now.decision ≡ (moment_of s (run_of s (t + m))).decided.decision
-  pub alarms_are : now.planning.rx.alarms ≡ (moment_of s (run_of s (t + m))).decided.alarms
-  pub released_is : now.released ≡ is_running (moment_of s (run_of s (t + m))).stage
+  pub decision_is : now.latest.decision ≡ (moment_of s (run_of s (t + m))).decided.decision
+  pub alarms_are : now.latest.alarms ≡ (moment_of s (run_of s (t + m))).decided.alarms
+  pub released_is : now.latest.released ≡ is_running (moment_of s (run_of s (t + m))).stage
 
--- ticks t to t + m are over, and of them the first i were collected
-pub record HasSegment (now : LinkView) (s : Plan) (t m i : ℕ) : Type 0 where
+-- the rows of the ticks from tick `from` on and before tick t are due, and their cells wait
+pub record HasDue (now : LinkView) (s : Plan) (from t : ℕ) : Type 0 where
+  pub same_link : now.link ≡ s.link
+  pub before : IsBefore now.last s from t
+  pub collected : HasCollected now.collecting s from
+  pub waiting : HaveWaiting now.collecting.waiting s from (t - from)
+
+-- ticks t to t + m have run, and the cells of those from tick `from` on and before tick t wait
+pub record HasNext (now : LinkView) (s : Plan) (from t m : ℕ) : Type 0 where
   pub ran : HasRunLanes now s (t + suc m)
+  pub over : IsOver now.latest s t m
+  pub cells : HaveCells now.collecting.ends s t 0
+  pub due : HasDue now s from t
+
+-- the run of t ticks is over
+pub record HasFinished (now : LinkView) (s : Plan) (from t : ℕ) : Type 0 where
+  pub ran : HasRunLanes now s t
+  pub cells : HaveCells now.collecting.ends s t 0
+  pub due : HasDue now s from t
+
+-- all cells of the ticks before tick t were taken
+pub record HasAllTaken (now : LinkView) (s : Plan) (t : ℕ) : Type 0 where
+  pub collected : HasCollected now.collecting s t
+  pub none_waits : HaveWaiting now.collecting.waiting s t 0
+
+-- ticks t to t + m have run, and all before them was reported
+pub record HasReportedBefore (now : LinkView) (s : Plan) (t m : ℕ) : Type 0 where
+  pub ran : HasRunLanes now s (t + suc m)
+  pub over : IsOver now.latest s t m
+  pub cells : HaveCells now.collecting.ends s t 0
+  pub taken : HasAllTaken now s t
+
+-- the whole run is over: the lanes made it, and the ends of their rings received all that they gave
+pub record HasRunWhole (now : LinkView) (s : Plan) : Type 0 where
+  pub ran : HasRunLanes now s s.ticks
+  pub cells : HaveCells now.collecting.ends s s.ticks 0
+
+-- of the segment of ticks t to t + m, whose rows are due, the first i ticks were collected
+pub record HasSegment (now : LinkView) (s : Plan) (t m i : ℕ) : Type 0 where
+  pub same_link : now.link ≡ s.link
+  pub over : IsOver now.last s t m
   pub within : i ≤ suc m
-  pub has_steps : HasSteps now.segment s t (suc m)
-  pub one : IsOneSegment now.segment.gives s t m
-  pub reset : now.segment.rx_reset ≡ is_reset s Rx t
-  pub decision_is : now.decision ≡ (moment_of s (run_of s (t + m))).decided.decision
-  pub alarms_are : now.planning.rx.alarms ≡ (moment_of s (run_of s (t + m))).decided.alarms
-  pub released_is : now.released ≡ is_running (moment_of s (run_of s (t + m))).stage
   pub collected : HasCollected now.collecting s (t + i)
-  pub cells : HaveCells now.collecting.ends s (t + i) (suc m - i)
+  pub cells : HaveWaiting now.collecting.waiting s (t + i) (suc m - i)
 
 -- whether the receiver was reset in tick i of the segment, whether the link runs after it, and
 -- what the receiver decided in it
 abbrev pub reset_in : LinkView → ℕ → Bool
-reset_in now i = (i == 0) && now.segment.rx_reset
+reset_in now i = (i == 0) && now.last.segment.rx_reset
 
 abbrev pub runs_in : LinkView → ℕ → Bool
 runs_in now i =
-    if i + 1 == length now.segment.steps then now.released else now.segment.gives
+    if i + 1 == length now.last.segment.steps then now.last.released else now.last.segment.gives
 
 abbrev pub decision_in : LinkView → ℕ → Decision
 decision_in now i =
-    if i + 1 == length now.segment.steps then now.decision else decision.Stay
+    if i + 1 == length now.last.segment.steps then now.last.decision else decision.Stay
 
 -- what is seen of it
 abbrev pub seen_in : LinkView → ℕ → Ticked
 seen_in now i = record {
   rx_reset = reset_in now i;
-  tx_off = (get_or now.segment.edges i no_edges).tx;
-  rx_off = (get_or now.segment.edges i no_edges).rx;
-  place = data_place (get_or now.segment.steps i no_step).tx;
+  tx_off = (get_or now.last.segment.edges i no_edges).tx;
+  rx_off = (get_or now.last.segment.edges i no_edges).rx;
+  place = data_place (get_or now.last.segment.steps i no_step).tx;
   decision = decision_in now i;
 }
 
 -- the alarms of the decision in tick i of the segment: only in its last tick there are any
 abbrev pub alarms_in : LinkView → ℕ → List Alarm
-alarms_in now i = if i + 1 == length now.segment.steps then now.planning.rx.alarms else []
+alarms_in now i = if i + 1 == length now.last.segment.steps then now.last.alarms else []

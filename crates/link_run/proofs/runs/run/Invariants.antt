@@ -11,13 +11,13 @@ invariant-loop-t g l = record {
   within : l.t ≤ l.s.ticks;
   link : l.s.link ≡ Some l.state.link;
   same : l.state.link ≡ l.fn.state.link;
-  stands : (plan : Plan) → plan_of l.s ≡ Some plan → HasRun l.state plan l.t;
-  reported : (plan : Plan) → plan_of l.s ≡ Some plan → HasReported l.report plan (run_of plan l.t);
-  few : AreFew l.report.totals l.t;
+  stands : (plan : Plan) → plan_of l.s ≡ Some plan → HasRun l.state plan l.from l.t;
+  reported : (plan : Plan) → plan_of l.s ≡ Some plan → HasReported l.report plan (run_of plan l.from);
+  few : AreFew l.report.totals l.from;
   params : (l.report.params ≡ l.s.shape) × (l.report.short ≡ l.fn.report.short);
   handed : (plan : Plan) → plan_of l.s ≡ Some plan
       → WasHanded g.row.W.Denot g.W.Rows.Took g.W.Rows.shape g.W.Rows.faults l.fn.rows l.rows true
-      (handed_so_far l.fn.report.short plan (run_of plan l.t));
+      (handed_so_far l.fn.report.short plan (run_of plan l.from));
 }
 
 abbrev pub decreases-loop-t : goal.decreases-loop-t

@@ -19,4 +19,6 @@ invariant_of-result c =
     )
 
 pub returns-clause-new : goal.returns-clause-new
-returns-clause-new c = λ plan is. have-run _ plan 0 (c.in_ok-state.ensures.stands plan is)
+returns-clause-new c = λ plan is.
+    let stands = c.in_ok-state.ensures.stands plan is in
+    have-run _ plan 0 stands.ran stands.cells

@@ -41,5 +41,5 @@ returns-clause-alarms g c = λ plan is.
 pub returns-clause-lanes : goal.returns-clause-lanes
 returns-clause-lanes g c = λ plan is whole.
     let of = ap (λ (b : BenchView). plan_of b.scenario) c.self.view_is ∙ is in
-    have-run _ plan plan.ticks
-    (on-ok c.run.result (c.run.ensures.ran plan of) (sym c.outcome.ensures.whole ∙ whole))
+    let ran = on-ok c.run.result (c.run.ensures.ran plan of) (sym c.outcome.ensures.whole ∙ whole) in
+    have-run _ plan plan.ticks ran.ran ran.cells

@@ -91,5 +91,6 @@ returns-clause-lanes g c = λ plan is done.
     let of = ap (λ (b : BenchView). plan_of b.scenario) c.self.view_is ∙ is in
     let whole = done-whole c.status.result c.outcome.result (is_ok c.flush.result) c.status.ensures
     done in
-    have-run _ plan plan.ticks
-    (on-ok c.run-ran.result (c.run-ran.ensures.ran plan of) (sym c.outcome.ensures.whole ∙ whole))
+    let ran = on-ok c.run-ran.result (c.run-ran.ensures.ran plan of)
+    (sym c.outcome.ensures.whole ∙ whole) in
+    have-run _ plan plan.ticks ran.ran ran.cells

@@ -1,9 +1,8 @@
 use Rattle.std.proofs.Common.{◌≡◌, ◌∙◌, List, arith, refl, map, sym, ap, subst}
 use Rattle.std.proofs.lemmas.List.{with_items_is}
 use Rattle.std.specs.Vec.{with_items}
-use Rattle.lane_threads.specs.declared.cell_end.CellEnd.{CellEnd}
 use Rattle.link_run.specs.kept.Collected.{Collecting}
-use Rattle.link_run.specs.kept.Ends.{HavePopped, next_cell}
+use Rattle.link_run.specs.kept.Waits.{AreNext, Waits, next_of}
 use Rattle.link_run.proofs.Collecting.{begun-cells, begun-left, collects-early, collects-late, collects-still, rested-left}
 use Rattle.link_run.proofs.RunFacts.{is-run}
 use Rattle.link_run.proofs.collector.Collector.take.Goals as goal
@@ -14,11 +13,12 @@ returns-then-not-runs-clause-took c = λ s t n legal had cells hunts runs.
     let begun : Collecting = c.begin.new.self in
     let now : Collecting = record {
       ends = c.self.inside.ends.items;
+      waiting = c.self.inside.waiting.items;
       lead = c.self.inside.lead;
       ahead = c.self.inside.ahead;
       gathering = c.self.inside.deframer;
     } in
-    let same = ap (λ (v : Collecting). v.ends) c.begin.ensures.same in
+    let same = ap (λ (v : Collecting). v.waiting) c.begin.ensures.same in
     let left = begun-left old begun now c.args.hunt s t c.self.view_is had hunts
     c.begin.ensures.same c.begin.ensures.gathered in
     let there = begun-cells old begun now s t _ c.self.view_is same cells in
@@ -34,11 +34,12 @@ returns-then-self-gt0-clause-took c = λ s t n legal had cells hunts runs.
     let begun : Collecting = c.begin.new.self in
     let now : Collecting = record {
       ends = c.self.inside.ends.items;
+      waiting = c.self.inside.waiting.items;
       lead = c.self.inside.lead;
       ahead = c.self.inside.ahead;
       gathering = c.self.inside.deframer;
     } in
-    let same = ap (λ (v : Collecting). v.ends) c.begin.ensures.same in
+    let same = ap (λ (v : Collecting). v.waiting) c.begin.ensures.same in
     let left = begun-left old begun now c.args.hunt s t c.self.view_is had hunts
     c.begin.ensures.same c.begin.ensures.gathered in
     let there = begun-cells old begun now s t _ c.self.view_is same cells in
@@ -54,29 +55,31 @@ returns-else-self-gt0-clause-took c = λ s t n legal had cells hunts runs.
     let begun : Collecting = c.begin.new.self in
     let was : Collecting = record {
       ends = c.self.inside.ends.items;
+      waiting = c.self.inside.waiting.items;
       lead = c.self.inside.lead;
       ahead = c.self.inside.ahead;
       gathering = c.self.inside.deframer;
     } in
-    let same = ap (λ (v : Collecting). v.ends) c.begin.ensures.same in
+    let same = ap (λ (v : Collecting). v.waiting) c.begin.ensures.same in
     let left = begun-left old begun was c.args.hunt s t c.self.view_is had hunts
     c.begin.ensures.same c.begin.ensures.gathered in
     let there = begun-cells old begun was s t _ c.self.view_is same cells in
     let goes = sym runs ∙ c.if-not-runs.false in
     let none : was.ahead ≡ 0 = (let past = c.if-self-gt0.false in omega arith) in
-    let ends : (with_items c.self.inside.ends c.pop_each.new.ends).items ≡ c.pop_each.new.ends =
-    with_items_is c.self.inside.ends c.pop_each.new.ends
-    (c.pop_each.auto.ends ∙ c.as_mut_slice.ensures.len) in
-    let gave : c.deref.result.now ≡ map next_cell was.ends =
+    let waits : (with_items c.self.inside.waiting c.take_each.new.waiting).items
+    ≡ c.take_each.new.waiting =
+    with_items_is c.self.inside.waiting c.take_each.new.waiting
+    (c.take_each.auto.waiting ∙ c.as_mut_slice.ensures.len) in
+    let gave : c.deref.result.now ≡ map next_of was.waiting =
     c.deref.ensures.value
-    ∙ with_items_is c.self.inside.given c.pop_each.new.given
-    (c.pop_each.auto.given ∙ c.as_mut_slice-else-self-gt0.ensures.len)
-    ∙ c.pop_each.ensures.given ∙ ap (map next_cell) c.as_mut_slice.ensures.value in
-    let popped : HavePopped was.ends (with_items c.self.inside.ends c.pop_each.new.ends).items =
-    subst (HavePopped was.ends) (sym ends)
-    (subst (λ (xs : List CellEnd). HavePopped xs c.pop_each.new.ends) c.as_mut_slice.ensures.value
-    c.pop_each.ensures.popped) in
+    ∙ with_items_is c.self.inside.given c.take_each.new.given
+    (c.take_each.auto.given ∙ c.as_mut_slice-else-self-gt0.ensures.len)
+    ∙ c.take_each.ensures.given ∙ ap (map next_of) c.as_mut_slice.ensures.value in
+    let taken : AreNext was.waiting (with_items c.self.inside.waiting c.take_each.new.waiting).items =
+    subst (AreNext was.waiting) (sym waits)
+    (subst (λ (xs : List Waits). AreNext xs c.take_each.new.waiting) c.as_mut_slice.ensures.value
+    c.take_each.ensures.taken) in
     collects-late was _ c.deref.result.now s t n (is-run t s legal.laws legal.timing) left there
-    goes none popped gave refl refl
+    goes none refl taken gave refl refl
     (λ columns column. c.take.ensures.goes_on s.link.params columns column)
     (λ columns column. c.take.ensures.frames s.link.params columns column)

@@ -1,4 +1,4 @@
-use Rattle.std.proofs.Common.{◌≡◌, ◌∙◌, ◌+◌, ℕ, suc, None, Some, is_some, arith, sym, ap, subst, refl}
+use Rattle.std.proofs.Common.{◌≡◌, ◌∙◌, ◌+◌, ℕ, suc, [], ◌∷◌, ◌++◌, None, Some, is_some, arith, sym, ap, subst, refl}
 use Rattle.std.specs.Prelude.{IsTrue}
 use Rattle.link_params.specs.Laws.{broken_law}
 use Rattle.link_params.specs.Links.{Link}
@@ -26,7 +26,7 @@ over-then : (c : After-is_released-self-inside) (s : Plan) (from m : ℕ) → pl
     → IsEnded c.end-self-inside.result c.end-self-inside.new.self.rx s (run_of s (from + m))
 over-then c s from m is at on =
     subst (λ n. IsEnded c.end-self-inside.result c.end-self-inside.new.self.rx s (run_of s n)) at
-    (c.end-self-inside.ensures.ended s is (c.decides.ensures ∙ on.planned.decides_is
+    (c.end-self-inside.ensures.ended s is (c.decides-decides.ensures ∙ on.planned.decides_is
     ∙ ap (λ n. (moment_of s (run_of s n)).decides) (sym at)))
 
 -- and the transmitter has ended the tick
@@ -37,16 +37,34 @@ sent-then c s from m is at on =
     subst (λ n. HasSentRun c.end-self-inside.new.self.tx s (run_of s (suc n))) at
     (c.end-self-inside.ensures.sent s is
     (subst (λ n. HasSentTick c.self.inside.planner.tx s (run_of s n)) (sym at) on.planned.sent)
-    (c.decides.ensures ∙ on.planned.decides_is
+    (c.decides-decides.ensures ∙ on.planned.decides_is
     ∙ ap (λ n. (moment_of s (run_of s n)).decides) (sym at)))
+
+-- once its alarms were handed out it stands as before
+told-then : (c : After-is_released-self-inside) (s : Plan) (from m : ℕ) → plan_of c.args.s.now ≡ Some s
+    → c.args.t ≡ from + m → HasCarriedOn (view_of c.self.inside) s from m
+    → HasReceivedRun c.take_alarms.new.self.rx s (run_of s (suc (from + m)))
+told-then c s from m is at on =
+    let stands = (over-then c s from m is at on).stands in
+    let told : HasReceivedRun c.take_alarms.new.self.rx s
+    (run_of s (from + m) ++ moment_of s (run_of s (from + m)) ∷ []) =
+    subst (λ (p : Planning). HasReceivedRun p.rx s
+    (run_of s (from + m) ++ moment_of s (run_of s (from + m)) ∷ []))
+    (sym c.take_alarms.ensures.same) (record {
+      clock = stands.clock;
+      device = stands.device;
+      control = stands.control;
+      hunts = stands.hunts;
+      lanes = stands.lanes;
+    }) in
+    subst (HasReceivedRun c.take_alarms.new.self.rx s)
+    (sym (run-suc (kind_of s.link.params) s (from + m))) told
 
 released-then : (c : After-is_released-self-inside) (s : Plan) (from m : ℕ) → plan_of c.args.s.now ≡ Some s
     → c.args.t ≡ from + m → HasCarriedOn (view_of c.self.inside) s from m
     → c.is_released-self-inside.result ≡ is_running (moment_of s (run_of s (from + m))).stage
 released-then c s from m is at on =
-    c.is_released-self-inside.ensures s (from + m)
-    (subst (HasReceivedRun c.end-self-inside.new.self.rx s) (sym (run-suc (kind_of s.link.params) s (from + m)))
-    (over-then c s from m is at on).stands)
+    c.is_released-self-inside.ensures s (from + m) (told-then c s from m is at on)
 
 pub end-self-inside-requires-clause-link : goal.end-self-inside-requires-clause-link
 end-self-inside-requires-clause-link c = subst (λ o. IsTrue (is_some o)) (sym c.requires.link) refl
@@ -94,10 +112,15 @@ returns-then-self-clause-ended c = λ s from m is at had.
     let rings = subst (HaveRings c.self.inside.lanes s (from + m)) e on.rings in
     let (runs, gave) = c.give.ensures.gave s (from + m) on.lanes rings
     (sym released ∙ c.if-self.true) in
+    let told = told-then before.After-is_released-self-inside s from m is at on in
+    let took = c.take_alarms.ensures.same in
     let same = c.end-self-inside.ensures.same in
-    has-ended (view_of c.self.inside) _ s from m on
-    (ap (λ (p : Planning). p.link) same) (ap (λ (p : Planning). p.next) same)
-    c.end-self-inside.ensures.sending over sent released runs gave
+    has-ended (view_of c.self.inside) _ c.end-self-inside.new.self.rx s from m on
+    (ap (λ (p : Planning). p.link) took ∙ ap (λ (p : Planning). p.link) same)
+    (ap (λ (p : Planning). p.next) took ∙ ap (λ (p : Planning). p.next) same)
+    (ap (λ (p : Planning). p.tx.sending) took ∙ c.end-self-inside.ensures.sending) over
+    c.take_alarms.ensures.alarms told
+    (subst (λ (p : Planning). HasSentRun p.tx s (run_of s (suc (from + m)))) (sym took) sent) released runs gave
     (pairs-on c.self.inside.lanes c.give.new.self c.self.inside.collector.ends c.give.ensures.rings
     on.sized.pairs)
     (c.give.ensures.at s.link.params _ on.at_next)
@@ -112,9 +135,14 @@ returns-else-self-clause-ended c = λ s from m is at had.
     let e : from + suc m ≡ suc (from + m) = omega arith in
     let rings = subst (HaveRings c.self.inside.lanes s (from + m)) e on.rings in
     let halts = sym released ∙ c.if-self.false in
+    let told = told-then before.After-is_released-self-inside s from m is at on in
+    let took = c.take_alarms.ensures.same in
     let same = c.end-self-inside.ensures.same in
-    has-ended (view_of c.self.inside) _ s from m on
-    (ap (λ (p : Planning). p.link) same) (ap (λ (p : Planning). p.next) same)
-    c.end-self-inside.ensures.sending over sent released
+    has-ended (view_of c.self.inside) _ c.end-self-inside.new.self.rx s from m on
+    (ap (λ (p : Planning). p.link) took ∙ ap (λ (p : Planning). p.link) same)
+    (ap (λ (p : Planning). p.next) took ∙ ap (λ (p : Planning). p.next) same)
+    (ap (λ (p : Planning). p.tx.sending) took ∙ c.end-self-inside.ensures.sending) over
+    c.take_alarms.ensures.alarms told
+    (subst (λ (p : Planning). HasSentRun p.tx s (run_of s (suc (from + m)))) (sym took) sent) released
     (runs-still c.self.inside.lanes s (from + m) halts on.lanes)
     (rings-still c.self.inside.lanes s (from + m) halts rings) on.sized.pairs on.at_next

@@ -7,27 +7,30 @@ use Rattle.scenario.specs.Plans.{Plan, plan_of}
 use Rattle.link_model.specs.Kinds.{run_of}
 use Rattle.link_model.specs.kept.LaneRuns.{lane_ready}
 use Rattle.link_run.specs.contracts.link_state.LinkState.{the_view as view_of}
-use Rattle.link_run.specs.kept.Collected.{IsLegalLink}
+use Rattle.link_run.specs.declared.ended.Ended.{Ended}
+use Rattle.link_run.specs.kept.Collected.{Collecting, IsLegalLink}
+use Rattle.link_run.specs.kept.Ends.{HaveCells}
 use Rattle.link_run.specs.kept.LaneRuns.{AreAt}
-use Rattle.link_run.specs.kept.LinkStates.{HasCarriedOn, HasEnded, LinkView}
+use Rattle.link_run.specs.kept.LinkStates.{HasCarriedOn, HasRun, IsBefore, LinkView}
 use Rattle.link_run.specs.kept.Segments.{IsCarried, IsPlanned}
 use Rattle.link_run.specs.kept.Sendings.{next_of}
 use Rattle.link_run.proofs.Carrying.{can-carry}
 use Rattle.link_run.proofs.LaneStates.{link-of, plan-there}
-use Rattle.link_run.proofs.LinkRuns.{IsReady, carried-on, is-ready, planned-carried, segment-met, with_carried}
+use Rattle.link_run.proofs.LinkRuns.{HasTaken, IsReady, carried-on, has-next, has-taken, is-ready, planned-carried, with_carried}
 use Rattle.link_run.proofs.PlanFacts.{plan-facts}
 use Rattle.link_run.proofs.SameLanes.{have-widths}
 use Rattle.link_run.proofs.link_state.LinkState.run.Given.{Over}
 use Rattle.link_run.proofs.link_state.LinkState.run.Goals as goal
-use Rattle.link_run.proofs.link_state.LinkState.run.Goals.{After-self-2, After-plan, After-carry, After-end}
+use Rattle.link_run.proofs.link_state.LinkState.run.Goals.{After-self-2, After-plan, After-carry}
 
 -- the events of the first tick have happened
 ready-then : (g : Over) (c : After-self-2 g) (s : Plan) → plan_of c.args.s.now ≡ Some s
     → IsReady c.happen-happened.result (view_of c.self-2.inside) s c.args.t
 ready-then g c s is =
+    let (from, had) = c.requires.stands s is in
     subst (λ v. IsReady c.happen-happened.result v s c.args.t) (sym c.self-2.view_is)
-    (is-ready c.happen-happened.result c.args.self.now c.happen-happened.new.self s c.args.t
-    (c.requires.stands s is) (c.happen-happened.ensures s is))
+    (is-ready c.happen-happened.result c.meet.new.self c.happen-happened.new.self s c.args.t
+    (c.meet.ensures.ran s c.args.t had.ran) (c.happen-happened.ensures s is))
 
 legal-then : (g : Over) (c : After-self-2 g) (s : Plan) → plan_of c.args.s.now ≡ Some s → IsLegalLink s
 legal-then g c s is =
@@ -62,12 +65,45 @@ on-then : (g : Over) (c : After-carry g) (s : Plan) (m : ℕ)
     else next_of s.link.params c.self-2.inside.planner.tx.sending)
     (next_of s.link.params c.plan.new.self.tx.sending)
     → HasCarriedOn (with_carried (view_of c.self-2.inside) c.plan.new.self c.carry.new.self
-    c.plan.new.segment) s c.args.t m
+    c.plan.new.segment c.carry.new.side) s c.args.t m
 on-then g c s m ready planned carried =
     let (runs, rings, at) = c.carry.ensures.ran s c.args.t m _ _ carried in
     carried-on (view_of c.self-2.inside) c.happen-happened.result s c.args.t m c.plan.new.lanes
-    c.carry.new.self c.plan.new.segment c.plan.new.self ready c.plan.ensures.link
-    c.plan.ensures.room c.plan.ensures.lanes planned c.carry.ensures.rings runs rings at
+    c.carry.new.self c.plan.new.segment c.plan.new.self c.carry.new.side ready c.plan.ensures.link
+    c.plan.ensures.room c.plan.ensures.lanes planned c.carry.ensures.rings c.carry.ensures.side.1
+    runs rings at
+
+-- the cells of the segment before were taken
+taken-then : (g : Over) (c : After-carry g) (s : Plan) (from : ℕ) → plan_of c.args.s.now ≡ Some s
+    → IsReady c.happen-happened.result (view_of c.self-2.inside) s c.args.t
+    → HasRun c.args.self.now s from c.args.t → HasTaken c.carry.new.side s from c.args.t
+taken-then g c s from is ready had =
+    let old : LinkView = c.args.self.now in
+    let happened = c.happen-happened.ensures s is in
+    let same = ap (λ (v : LinkView). v.collecting) c.self-2.view_is
+    ∙ ap (λ (v : LinkView). v.collecting) happened.same in
+    has-taken old c.self-2.inside.collector c.carry.new.side s from c.args.t had
+    (ready.sized.pairs.count ∙ ready.lanes.0)
+    (λ n ran. subst (λ (k : Collecting). HaveCells k.ends s from n) (sym same)
+    (c.meet.ensures.knows s from n ran had.cells))
+    (subst (λ (k : Collecting). k ≡ record old.collecting { ends = k.ends }) (sym same)
+    (ap (λ (v : LinkView). v.collecting) c.meet.ensures.same))
+    c.carry.ensures.side.0 c.carry.ensures.side.1
+
+pub meet-requires : goal.meet-requires
+meet-requires g c =
+    let (s, is) = plan-there c.args.s.now c.args.self.now.link c.requires.link in
+    let (from, had) = c.requires.stands s is in
+    record { pairs = had.ran.sized.pairs }
+
+pub happen-happened-requires-clause-link : goal.happen-happened-requires-clause-link
+happen-happened-requires-clause-link g c =
+    c.requires.link ∙ ap (λ k. Some k) (sym (ap (λ (v : LinkView). v.link) c.meet.ensures.same))
+
+pub happen-happened-requires-clause-stands : goal.happen-happened-requires-clause-stands
+happen-happened-requires-clause-stands g c = λ s is.
+    let (from, had) = c.requires.stands s is in
+    c.meet.ensures.ran s c.args.t had.ran
 
 pub plan-requires-clause-link : goal.plan-requires-clause-link
 plan-requires-clause-link g c =
@@ -79,7 +115,7 @@ pub plan-requires-clause-room : goal.plan-requires-clause-room
 plan-requires-clause-room g c =
     let (s, is) = plan-there c.args.s.now c.args.self.now.link c.requires.link in
     let ready = ready-then g (goal.at.plan-requires-clause-room g c).After-self-2 s is in
-    subst (λ (k : Link). period k.params ≤ c.self-2.inside.segment.room)
+    subst (λ (k : Link). period k.params ≤ c.self-2.inside.latest.segment.room)
     (sym ready.sized.same_planning) ready.sized.room
 
 pub plan-requires-clause-count : goal.plan-requires-clause-count
@@ -156,31 +192,8 @@ end-requires-clause-can g c = λ s is.
     let carried = carried-then g before.After-plan s m is legal ready planned count in
     (c.args.t, m, omega arith, on-then g before.After-carry s m ready planned carried)
 
--- the last tick is over
-over-then : (g : Over) (c : After-end g) (s : Plan) (m : ℕ) → plan_of c.args.s.now ≡ Some s
-    → length c.plan.new.segment.steps ≡ suc m
-    → HasCarriedOn (with_carried (view_of c.self-2.inside) c.plan.new.self c.carry.new.self
-    c.plan.new.segment) s c.args.t m
-    → HasEnded c.end.new.self s c.args.t m
-over-then g c s m is count on =
-    let size = c.len-count.ensures in
-    c.end.ensures.ended s c.args.t m is (omega arith) on
-
-pub meet-requires : goal.meet-requires
-meet-requires g c =
-    let (s, is) = plan-there c.args.s.now c.args.self.now.link c.requires.link in
-    let before = goal.at.meet-requires g c in
-    let ready = ready-then g before.After-self-2 s is in
-    let legal = legal-then g before.After-self-2 s is in
-    let (m, count, planned) = c.plan.ensures.planned s is in
-    let carried = carried-then g before.After-plan s m is legal ready planned count in
-    let on = on-then g before.After-carry s m ready planned carried in
-    let over = subst (λ (v : LinkView). HasEnded v s c.args.t m) (sym c.self-3.view_is)
-    (over-then g before.After-end s m is count on) in
-    record { pairs = over.pairs }
-
 pub returns-clause-ran : goal.returns-clause-ran
-returns-clause-ran g c = λ s is.
+returns-clause-ran g c = λ s from is had.
     let before = goal.at.returns-clause-ran g c in
     let t = c.args.t in
     let ready = ready-then g before.After-self-2 s is in
@@ -188,17 +201,20 @@ returns-clause-ran g c = λ s is.
     let (m, count, planned) = c.plan.ensures.planned s is in
     let carried = carried-then g before.After-plan s m is legal ready planned count in
     let on = on-then g before.After-carry s m ready planned carried in
+    let happened = c.happen-happened.ensures s is in
     let size = c.len-count.ensures in
-    let met = c.meet.ensures in (
+    let last = ap (λ (v : LinkView). v.last) c.self-2.view_is
+    ∙ ap (λ (v : LinkView). v.last) happened.same
+    ∙ ap (λ (v : LinkView). v.last) c.meet.ensures.same in (
       m,
       omega arith,
-      segment-met
+      has-next
           (with_carried (view_of c.self-2.inside) c.plan.new.self c.carry.new.self
-          c.plan.new.segment)
-          c.end.new.self (view_of c.self-3.inside) c.meet.new.lanes c.meet.new.self s t m on
-          c.self-3.view_is c.end.ensures.same (over-then g before.After-end s m is count on)
-          ready.collected ready.cells met.same met.pairs (met.knows s t (suc m)) (met.lanes s)
-          (met.rings s) met.at,
+          c.plan.new.segment c.carry.new.side)
+          c.end.new.self s from t m on c.end.ensures.same
+          (c.end.ensures.ended s t m is (omega arith) on)
+          (subst (λ (e : Ended). IsBefore e s from t) (sym last) had.before)
+          (taken-then g before.After-carry s from is ready had),
     )
 
 pub returns-clause-within : goal.returns-clause-within
@@ -234,5 +250,7 @@ pub returns-clause-same : goal.returns-clause-same
 returns-clause-same g c =
     let (s, is) = plan-there c.args.s.now c.args.self.now.link c.requires.link in
     let happened = c.happen-happened.ensures s is in
-    ap (λ (x : LinkView). x.link) (c.self-3.view_is ∙ c.end.ensures.same)
-    ∙ ap (λ (x : LinkView). x.link) (c.self-2.view_is ∙ happened.same)
+    ap (λ (x : LinkView). x.link) c.end.ensures.same
+    ∙ ap (λ (x : LinkView). x.link) c.self-2.view_is
+    ∙ ap (λ (x : LinkView). x.link) happened.same
+    ∙ ap (λ (x : LinkView). x.link) c.meet.ensures.same

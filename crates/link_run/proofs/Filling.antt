@@ -1,0 +1,153 @@
+-- The cells of a lane that are taken from its ring and wait.
+use Rattle.std.proofs.Common.{◌≡◌, ◌≢◌, ◌∙◌, ◌<◌, ◌≤◌, ◌+◌, ℕ, List, [], ◌∷◌, ◌++◌, length, get_or, set, drop, inl, inr, refl, arith, sym, ap, subst, append_assoc, append-nil, length-append, length-drop, length-set}
+use Rattle.std.proofs.lemmas.Bool.{cases_lt}
+use Rattle.std.proofs.lemmas.List.{drop-append-le, get_or-set_same, get_or-set_other, get_or_default}
+use Rattle.rtrb.specs.Ring.{SameConsumer, known_items, received}
+use Rattle.link_params.specs.declared.cells.LaneCell.{LaneCell}
+use Rattle.lane_threads.specs.declared.cell_end.CellEnd.{CellEnd}
+use Rattle.link_run.specs.kept.Waits.{AreFilled, IsFilled, Waits}
+
+-- some of the cells were moved behind those of `old`; where there were none, `items` begins there
+pub record IsFilling (old : Waits) (next : ℕ) (items : List LaneCell) (before after : CellEnd)
+    : Type 0 where
+  pub moved : List LaneCell
+  pub known_before : known_items before.ring ≡ moved ++ known_items after.ring
+  pub received_too : received after.ring ≡ received before.ring ++ moved
+  pub ring : SameConsumer before.ring after.ring
+  pub waiting : drop next items ≡ old.cells ++ moved
+  pub first : old.cells ≡ [] → next ≡ 0
+  pub inside : next ≤ length items
+
+pub filling-none : (old : Waits) (next : ℕ) (items : List LaneCell) (end : CellEnd)
+    → old.cells ≡ drop next items → (old.cells ≡ [] → next ≡ 0) → next ≤ length items
+    → IsFilling old next items end end
+filling-none old next items end is first inside = record {
+  moved = [];
+  known_before = refl;
+  received_too = sym (append-nil (received end.ring));
+  ring = ((refl, refl, refl, refl), refl);
+  waiting = sym is ∙ sym (append-nil old.cells);
+  first = first;
+  inside = inside;
+}
+
+pub filling-more : (old : Waits) (next : ℕ) (items : List LaneCell) (before now after : CellEnd)
+    (cell : LaneCell) → known_items now.ring ≡ cell ∷ known_items after.ring
+    → received after.ring ≡ received now.ring ++ cell ∷ [] → SameConsumer now.ring after.ring
+    → IsFilling old next items before now
+    → IsFilling old next (items ++ cell ∷ []) before after
+filling-more old next items before now after cell known got ring h =
+    let inside = h.inside in
+    let r = ring.0 in
+    let s = h.ring.0 in
+    record {
+      moved = h.moved ++ cell ∷ [];
+      known_before = h.known_before ∙ ap (λ (xs : List LaneCell). h.moved ++ xs) known
+          ∙ sym (append_assoc h.moved (cell ∷ []) (known_items after.ring));
+      received_too = got ∙ ap (λ (xs : List LaneCell). xs ++ cell ∷ []) h.received_too
+          ∙ append_assoc (received before.ring) h.moved (cell ∷ []);
+      ring = ((r.0 ∙ s.0, r.1 ∙ s.1, r.2 ∙ s.2, r.3 ∙ s.3), ring.1 ∙ h.ring.1);
+      waiting = drop-append-le next items (cell ∷ []) h.inside
+          ∙ ap (λ (xs : List LaneCell). xs ++ cell ∷ []) h.waiting
+          ∙ append_assoc old.cells h.moved (cell ∷ []);
+      first = h.first;
+      inside =
+          let more = length-append items (cell ∷ []) in
+          omega arith;
+    }
+
+pub none-long : {A : Type 0} → (xs : List A) → length xs ≡ 0 → xs ≡ []
+none-long [] e = refl
+none-long (x ∷ xs) e = absurd (omega arith)
+
+-- nothing more is known of, or the room is full
+pub filled : (old now : Waits) (next : ℕ) (items : List LaneCell) (before after : CellEnd)
+    → IsFilling old next items before after → now.cells ≡ drop next items → now.room ≡ old.room
+    → (0 < length (known_items after.ring) → old.room ≤ length items)
+    → IsFilled old now before after
+filled old now next items before after h is room full = record {
+  moved = h.moved;
+  known_before = h.known_before;
+  received_too = h.received_too;
+  ring = h.ring;
+  waiting = is ∙ h.waiting;
+  all = λ none few. none-long (known_items after.ring) (elim (cases_lt 0 (length (known_items after.ring))) [
+    | inl some ↦
+        let enough = full some in
+        let start = h.first none in
+        let dropped = length-drop next items in
+        let long = ap length h.waiting in
+        let joined = length-append old.cells h.moved in
+        let no_old = ap length none in
+        let known = ap length h.known_before in
+        let parts = length-append h.moved (known_items after.ring) in
+        let more : length (known_items before.ring) ≡ length h.moved + length (known_items after.ring) = known ∙ parts in
+        let all : length items ≡ length h.moved = omega arith in
+        omega arith
+    | inr none_left ↦ omega arith
+  ]);
+  same_room = room;
+}
+
+-- ---- one lane after another
+
+-- the ends of the first n lanes gave their cells
+pub record AreFilling (old now : List Waits) (before after : List CellEnd) (n : ℕ) : Type 0 where
+  pub count : length now ≡ length old
+  pub end_count : length after ≡ length before
+  pub filled : (k : ℕ) (w : Waits) (e : CellEnd) → k < n → k < length before
+      → IsFilled (get_or old k w) (get_or now k w) (get_or before k e) (get_or after k e)
+  pub waits_stood : (k : ℕ) (w : Waits) → n ≤ k → get_or now k w ≡ get_or old k w
+  pub ends_stood : (k : ℕ) (e : CellEnd) → n ≤ k → get_or after k e ≡ get_or before k e
+
+pub are-filling-none : (waits : List Waits) (ends : List CellEnd)
+    → AreFilling waits waits ends ends 0
+are-filling-none waits ends = record {
+  count = refl;
+  end_count = refl;
+  filled = λ k w e low below. absurd (omega arith);
+  waits_stood = λ k w from. refl;
+  ends_stood = λ k e from. refl;
+}
+
+pub are-filling-more : (old now : List Waits) (before after : List CellEnd) (n : ℕ) (y d : Waits)
+    (b e : CellEnd) → n < length now → n < length after
+    → IsFilled (get_or now n d) y (get_or after n e) b → AreFilling old now before after n
+    → AreFilling old (set now n y) before (set after n b) (n + 1)
+are-filling-more old now before after n y d b e below inside is h =
+    let here : (w : Waits) (f : CellEnd)
+    → IsFilled (get_or old n w) (get_or (set now n y) n w) (get_or before n f)
+    (get_or (set after n b) n f) =
+    λ w f. rw (
+      get_or-set_same now n y w below,
+      get_or-set_same after n b f inside,
+      ← h.waits_stood n w (omega arith),
+      ← h.ends_stood n f (omega arith),
+      get_or_default now n w d below,
+      get_or_default after n f e inside,
+    ) is in
+    record {
+      count = length-set now n y ∙ h.count;
+      end_count = length-set after n b ∙ h.end_count;
+      filled = λ k w f low in_list. elim (cases_lt k n) [
+        | inl first ↦ let apart : k ≢ n = λ same. omega arith in
+            rw (get_or-set_other now n k y w apart, get_or-set_other after n k b f apart)
+            (h.filled k w f first in_list)
+        | inr after_it ↦
+            let same : n ≡ k = omega arith in
+            subst (λ (m : ℕ). IsFilled (get_or old m w) (get_or (set now n y) m w)
+            (get_or before m f) (get_or (set after n b) m f)) same (here w f)
+      ];
+      waits_stood = λ k w from. let apart : k ≢ n = λ same. omega arith in
+          get_or-set_other now n k y w apart ∙ h.waits_stood k w (omega arith);
+      ends_stood = λ k f from. let apart : k ≢ n = λ same. omega arith in
+          get_or-set_other after n k b f apart ∙ h.ends_stood k f (omega arith);
+    }
+
+pub are-filled : (old now : List Waits) (before after : List CellEnd) (n : ℕ)
+    → AreFilling old now before after n → length before ≤ n → AreFilled old now before after
+are-filled old now before after n h all = record {
+  count = h.count;
+  end_count = h.end_count;
+  each = λ lane w e below. h.filled lane w e (omega arith) below;
+}
