@@ -165,18 +165,20 @@ impl Report {
         rows.row(&Row::Enter(time), &self.words)
     }
 
-    /// A frame with this mark is delivered.
-    pub fn count(&mut self, mark: Mark)
-        requires count { self.old.totals.delivered < 4294967295 }
-        requires marks { (self.old.totals.ok < 4294967295) × (self.old.totals.fixed < 4294967295)
-            × (self.old.totals.bad < 4294967295) }
-        ensures { self.new ≡ record self.old { totals = counted_mark self.old.totals mark } }
+    /// So many source frames begin, and their rows are not handed on.
+    pub fn count_entries(&mut self, count: u32)
     {
-        self.totals.delivered += 1;
+        self.totals.entered += count;
+    }
+
+    /// So many frames with this mark are delivered.
+    pub fn count(&mut self, mark: Mark, count: u32)
+    {
+        self.totals.delivered += count;
         match mark {
-            Mark::Ok => self.totals.ok += 1,
-            Mark::Fixed => self.totals.fixed += 1,
-            Mark::Bad => self.totals.bad += 1,
+            Mark::Ok => self.totals.ok += count,
+            Mark::Fixed => self.totals.fixed += count,
+            Mark::Bad => self.totals.bad += count,
         }
     }
 
@@ -225,8 +227,8 @@ impl Report {
         }
     }
 
-    // Whether frames that enter are handed on.
-    fn prints_entries(&self, s: &Scenario) -> bool
+    /// Whether frames that enter are handed on.
+    pub fn prints_entries(&self, s: &Scenario) -> bool
         ensures { (plan : Plan) → plan_of s.now ≡ Some plan
             → result ≡ (if self.now.short then false else prints_all plan.print) }
     {

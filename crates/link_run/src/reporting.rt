@@ -89,15 +89,54 @@ fn add_entries<W: Rows>(
         × (report.new.short ≡ report.old.short) }
 {
     let Some(place) = place else { return Ok(()) };
-    let per_tick = s.shape.octets_per_tick();
-    let size = s.shape.frame_octets();
-    // The next octet of the tick that begins a frame.
-    let mut next = octets_to_frame(per_tick * place, size);
+    let (size, per_tick) = (s.shape.frame_octets(), s.shape.octets_per_tick());
+    let first = octets_to_frame(per_tick * place, size);
+    if report.prints_entries(s) {
+        add_entry_rows(report, rows, s, t, first)
+    } else {
+        report.count_entries(frames_from(first, size, per_tick));
+        Ok(())
+    }
+}
+
+// Their rows. `first`: the first octet of the tick that begins a frame.
+#[inline(never)]
+fn add_entry_rows<W: Rows>(
+    report: &mut Report,
+    rows: &mut W,
+    s: &Scenario,
+    t: u32,
+    first: u32,
+) -> Result<(), Failed>
+{
+    let (size, per_tick) = (s.shape.frame_octets(), s.shape.octets_per_tick());
+    let mut next = first;
     while next < per_tick {
         report.enter(rows, s, per_tick * t + next)?;
         next += size;
     }
     Ok(())
+}
+
+// How many frames begin below octet `end`, the first one at octet `first`.
+fn frames_from(first: u32, size: u32, end: u32) -> u32
+{
+    if first < end {
+        1 + frames_in(end - first - 1, size)
+    } else {
+        0
+    }
+}
+
+// How many frames so many octets of a lane hold.
+fn frames_in(octets: u32, size: u32) -> u32
+{
+    match size {
+        1 => octets,
+        2 => octets / 2,
+        4 => octets / 4,
+        _ => octets / size,
+    }
 }
 
 // How many octets of a lane come before the next frame, from this octet on.
@@ -161,8 +200,11 @@ fn count_frames(report: &mut Report, frames: &Deframer)
     } }
     ensures few { length frames.now.frames ≤ 8 }
 {
-    for i in 0..frames.whole() {
-        report.count(frames.mark(i));
+    let whole = frames.whole();
+    let (first, others) = frames.marks();
+    if whole > 0 {
+        report.count(first, 1);
+        report.count(others, whole as u32 - 1);
     }
 }
 
