@@ -10,21 +10,8 @@ use Rattle.link_run.specs.kept.Printing.{Printing}
 use Rattle.link_run.specs.kept.TickCounts.{entered_at}
 use Rattle.link_run.proofs.FeedLemmas.{same_params, some_plan}
 use Rattle.link_run.proofs.HandedRows.{handed-failed, handed-same, shape-kept, shown-cut, shown-none, shown-then}
-use Rattle.link_run.proofs.TickRows.{entered-begins, entered-to, entered_first, entries-rest, entries-shown, few-entered, few-entered-at, frame-after, none-printed, printed-rest}
-use Rattle.link_run.proofs.reporting.add_entries.Goals as goal
-
-pub returns-in_default-clause-handed : goal.returns-in_default-clause-handed
-unfolding enter_rows
-returns-in_default-clause-handed g c = λ plan is.
-    shown-none _ c.args.report.now.short _ (ap (λ o. if prints_all plan.print then enter_rows plan
-    c.args.report.now.totals.entered (entered_at plan.link.params c.args.t o) else [])
-    c.in_default.is ∙ none-printed (prints_all plan.print))
-
--- the tick's octet times and frames, by what the shape says of them
-at-of : (p : Params) (place next n f : ℕ) → n ≡ octets_per_tick p → f ≡ p.f
-    → (n * place + next) % f ≡ 0 → (octets_per_tick p * place + next) % p.f ≡ 0
-at-of p place next n f per_tick size at =
-    sym (ap₂ (λ (a b : ℕ). (a * place + next) % b) per_tick size) ∙ at
+use Rattle.link_run.proofs.TickRows.{at-of, entered-begins, entered-to, entered_first, entries-rest, entries-shown, few-entered, frame-after, none-printed, printed-rest}
+use Rattle.link_run.proofs.reporting.add_entry_rows.Goals as goal
 
 -- the counts with these entries
 abbrev with_entered : Printing → ℕ → Printing
@@ -35,7 +22,7 @@ unfolding enter_rows numbers_from
 loop-next-init g c =
     let p = c.args.s.now.shape in
     let t = c.args.t in
-    let place = c.in-Some.place in
+    let place = c.args.place in
     let next = c.octets_to_frame-next.result in
     let n = c.args.report.now.totals in
     let size = c.frame_octets-size.ensures.value in
@@ -57,7 +44,7 @@ loop-next-init g c =
 
 pub enter-requires-clause-count : goal.enter-requires-clause-count
 enter-requires-clause-count g c =
-    let few = few-entered c.args.s.now.shape c.args.t c.in-Some.place c.loop-next.next in
+    let few = few-entered c.args.s.now.shape c.args.t c.args.place c.loop-next.next in
     let now = ap (λ (r : Printing). r.totals.entered) c.loop-next.invariant.counts in
     let below = c.loop-next-test.true in
     let octets = c.octets_per_tick-per_tick.ensures.bound in
@@ -71,14 +58,11 @@ enter-requires-clause-shape g c = λ q is.
     q is
     ∙ sym (ap (λ (r : Printing). r.params) c.loop-next.invariant.counts)
 
-pub returns-in_err-enter-clause-few : goal.returns-in_err-enter-clause-few
-returns-in_err-enter-clause-few g c = few-entered-at c.args.s.now.shape c.args.t c.args.place
-
 pub returns-in_err-enter-clause-handed : goal.returns-in_err-enter-clause-handed
 returns-in_err-enter-clause-handed g c = λ plan is.
     let p = c.args.s.now.shape in
     let t = c.args.t in
-    let place = c.in-Some.place in
+    let place = c.args.place in
     let j = c.loop-next.next in
     let had = c.loop-next.invariant in
     let n = c.args.report.now.totals.entered in
@@ -89,8 +73,8 @@ returns-in_err-enter-clause-handed g c = λ plan is.
     let (rest, split) = entries-rest plan p t place n (j + 1) (octets_per_tick p) (omega arith) in
     let first : List Printed = enter_rows plan n (entered_first p t place (j + 1)) in
     let all : first ++ rest ≡ enter_rows plan n (entered_at plan.link.params t c.args.place) = split
-    ∙ ap₂ (λ (q : Params) o. enter_rows plan n (entered_at q t o))
-    (sym (same_params c.args.s.now plan is)) (sym c.in-Some.is) in
+    ∙ ap (λ (q : Params). enter_rows plan n (entered_at q t (Some place)))
+    (sym (same_params c.args.s.now plan is)) in
     handed-failed c.from_residual.result c.from_residual.ensures.0
     (shown-cut short (if prints then first else []) (if prints then rest else []) _
     (printed-rest prints first rest
@@ -111,7 +95,7 @@ pub loop-next-preserved : goal.loop-next-preserved
 loop-next-preserved g c =
     let p = c.args.s.now.shape in
     let t = c.args.t in
-    let place = c.in-Some.place in
+    let place = c.args.place in
     let j = c.loop-next.next in
     let had = c.loop-next.invariant in
     let totals = c.args.report.now.totals in
@@ -155,12 +139,11 @@ loop-next-preserved g c =
     })
 
 -- the octets of the tick are all over
-ended : (p : Params) (t place next n f : ℕ) (o : Option ℕ) → n ≡ octets_per_tick p → f ≡ p.f
+ended : (p : Params) (t place next n f : ℕ) → n ≡ octets_per_tick p → f ≡ p.f
     → n ≤ next → next < n + f → (octets_per_tick p * place + next) % p.f ≡ 0
-    → o ≡ Some place → entered_first p t place next ≡ entered_at p t o
-ended p t place next n f o per_tick size past near at there =
+    → entered_first p t place next ≡ entered_at p t (Some place)
+ended p t place next n f per_tick size past near at =
     entered-to p t place (octets_per_tick p) next at (omega arith) (omega arith)
-    ∙ ap (entered_at p t) (sym there)
 
 pub returns-clause-handed : goal.returns-clause-handed
 returns-clause-handed g c = λ plan is.
@@ -168,10 +151,10 @@ returns-clause-handed g c = λ plan is.
     let t = c.args.t in
     let n = c.args.report.now.totals.entered in
     let had = c.loop-next.invariant in
-    let all = ended p t c.in-Some.place c.loop-next.next _ _ c.args.place
+    let all = ended p t c.args.place c.loop-next.next _ _
     c.octets_per_tick-per_tick.ensures.value c.frame_octets-size.ensures.value
-    c.loop-next-test.false had.below had.at c.in-Some.is
-    ∙ ap (λ (q : Params). entered_at q t c.args.place) (sym (same_params c.args.s.now plan is)) in
+    c.loop-next-test.false had.below had.at
+    ∙ ap (λ (q : Params). entered_at q t (Some c.args.place)) (sym (same_params c.args.s.now plan is)) in
     handed-same {whole = true} _ _ (ap (λ (os : List ℕ). if c.args.report.now.short then [] else
     (if prints_all plan.print then enter_rows plan n os else [])) all) (had.handed plan is)
 
@@ -181,11 +164,8 @@ returns-clause-counts g c =
     let t = c.args.t in
     let n = c.args.report.now.totals.entered in
     let had = c.loop-next.invariant in
-    let all = ended p t c.in-Some.place c.loop-next.next _ _ c.args.place
+    let all = ended p t c.args.place c.loop-next.next _ _
     c.octets_per_tick-per_tick.ensures.value c.frame_octets-size.ensures.value
-    c.loop-next-test.false had.below had.at c.in-Some.is in
+    c.loop-next-test.false had.below had.at in
     had.counts
     ∙ ap (λ (os : List ℕ). with_entered c.args.report.now (n + length os)) all
-
-pub returns-clause-few : goal.returns-clause-few
-returns-clause-few g c = few-entered-at c.args.s.now.shape c.args.t c.args.place
