@@ -72,7 +72,8 @@ returns-in_err-enter-clause-handed g c = λ plan is.
     let below = c.loop-next-test.true in
     let (rest, split) = entries-rest plan p t place n (j + 1) (octets_per_tick p) (omega arith) in
     let first : List Printed = enter_rows plan n (entered_first p t place (j + 1)) in
-    let all : first ++ rest ≡ enter_rows plan n (entered_at plan.link.params t c.args.place) = split
+    let all : first ++ rest
+    ≡ enter_rows plan n (entered_at plan.link.params t (Some place)) = split
     ∙ ap (λ (q : Params). enter_rows plan n (entered_at q t (Some place)))
     (sym (same_params c.args.s.now plan is)) in
     handed-failed c.from_residual.result c.from_residual.ensures.0
