@@ -1,5 +1,5 @@
 -- Octets of a frame behind the numbers of the lanes.
-use Rattle.std.proofs.Common.{◌≡◌, ℕ, zero, suc, ◌+◌, ◌-◌, ◌*◌, ◌^◌, ◌<◌, ◌≤◌, List, [], ◌∷◌, All, fold, length, map, take, drop, get_or, slice_index, refl, sym, ap, ◌∙◌, arith, drop-cons}
+use Rattle.std.proofs.Common.{◌≡◌, ℕ, zero, suc, ◌+◌, ◌-◌, ◌*◌, ◌^◌, ◌<◌, ◌≤◌, List, [], ◌∷◌, All, fold, length, map, take, drop, get_or, slice_index, slice_set, refl, sym, ap, ◌∙◌, arith, drop-cons}
 use Rattle.std.proofs.Math.Nat.{mul_assoc, mul_comm, mul-le-mul_right, pow-le-pow_right, pow-suc}
 use Rattle.std.proofs.lemmas.List.{ext_get_or, get_or-map, length-map, length-take-le}
 use Rattle.std.proofs.lemmas.List.Elements.{All-from_get_or, All-get_or}
@@ -142,6 +142,20 @@ with_octets-are octets size at (suc n) handed inside =
     (at-with_octet octets size at lane handed (omega arith))
     ∙ sym (ap (fold behind (get_or handed lane 0))
     (next-octet octets size at n lane (omega arith))))
+
+-- one lane alone
+pub with_octets-one : (octets : List ℕ) (size at n v : ℕ) (handed : List ℕ) → length handed ≡ 1
+    → at + n ≤ length octets → v ≡ fold behind (get_or handed 0 0) (take n (drop at octets))
+    → slice_set handed 0 v ≡ with_octets octets size at n handed
+unfolding numbers_from
+with_octets-one octets size at n v (x ∷ []) one inside is =
+    let first : at ≡ 0 * size + at = omega arith in
+    ap (λ (w : ℕ). w ∷ []) (is
+    ∙ ap (λ (p : ℕ). fold behind x (take n (drop p octets))) first)
+    ∙ sym (with_octets-are octets size at n (x ∷ []) (λ lane below.
+    let only : lane ≡ 0 = omega arith in rw only (omega arith)))
+with_octets-one octets size at n v [] one inside is = absurd (omega arith)
+with_octets-one octets size at n v (x ∷ y ∷ xs) one inside is = absurd (omega arith)
 
 with_octet-below : (octets : List ℕ) (size at m : ℕ) (handed : List ℕ)
     → ((k : ℕ) → get_or octets k 0 < 256) → All (λ v. v < m) handed

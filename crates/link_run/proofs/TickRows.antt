@@ -1,9 +1,10 @@
 -- The rows of a tick, kind by kind, and what they add to the counts.
-use Rattle.std.proofs.Common.{◌≡◌, ℕ, zero, suc, ◌+◌, ◌-◌, ◌*◌, ◌/◌, ◌%◌, ◌≤◌, ◌<◌, ◌≢◌, Bool, true, false, if◌then◌else◌, List, [], ◌∷◌, ◌++◌, length, map, take, drop, filter, get_or, slice_get, Option, Some, None, refl, sym, ap, ap₂, ◌∙◌, append_assoc, append-nil, length-append, arith, count_by}
-use Rattle.std.proofs.lemmas.List.{length-map, map-append, map_push, take-append-drop, take_more}
+use Rattle.std.proofs.Common.{◌≡◌, ℕ, zero, suc, ◌+◌, ◌-◌, ◌*◌, ◌/◌, ◌%◌, ◌≤◌, ◌<◌, ◌≢◌, ◌==◌, Bool, true, false, if◌then◌else◌, List, [], ◌∷◌, ◌++◌, length, map, take, drop, filter, get_or, replicate, slice_get, sum_by, Option, Some, None, refl, sym, ap, ap₂, ◌∙◌, append_assoc, append-nil, length-append, arith, count_by}
+use Rattle.std.proofs.lemmas.List.{length-map, length-replicate, map-append, map_push, take-append-drop, take_more}
 use Rattle.std.proofs.lemmas.List.Elements.{filter-append}
-use Rattle.std.proofs.lemmas.List.Sums.{count_by-le-length, fold-append, length-filter}
-use Rattle.std.proofs.lemmas.Bool.{ne_eqb}
+use Rattle.std.proofs.lemmas.List.Folds.{sum_by-replicate}
+use Rattle.std.proofs.lemmas.List.Sums.{count_by-le-length, length-filter, sum_by-append}
+use Rattle.std.proofs.lemmas.Bool.{cond-false, eq-eqb, ne_eqb}
 use Rattle.std.proofs.lemmas.Nat.{mod-mul-add}
 use Rattle.std.proofs.lemmas.Simd.{map-map}
 use Rattle.std.proofs.lemmas.Option.{get_or_from_slice_get, slice_get_within}
@@ -25,12 +26,11 @@ use Rattle.link_model.specs.Edges.{off}
 use Rattle.link_model.specs.Kinds.{kind_of, moment_of}
 use Rattle.link_model.specs.Moments.{Delivered, History}
 use Rattle.link_model.specs.Report.{Printed, alarms_from, bare, bares, decision_rows, enter_rows, frame_row, is_bad, is_fixed, is_ok, marks, off_alarm, off_alarms, prints_all, prints_frames, rows_of_tick, totals}
-use Rattle.link_model.specs.Sends.{begins_frame, frames_before}
+use Rattle.link_model.specs.Sends.{beginnings, begins_frame, frames_before}
 use Rattle.link_run.specs.kept.Gathered.{Whole, delivered_of, no_frame}
-use Rattle.link_run.specs.kept.Printing.{counted_mark}
+use Rattle.link_run.specs.kept.Printing.{counted_marks}
 use Rattle.link_run.specs.kept.Reported.{AreFew, IsSeen}
 use Rattle.link_run.specs.kept.TickCounts.{entered_at, with_alarms, with_marks}
-use Rattle.link_params.specs.Config.{one_if}
 
 -- the rows of some alarms
 abbrev pub alarm_rows : ℕ → List Alarm → List Printed
@@ -247,6 +247,61 @@ entries-rest s p t place n j k within =
       is ∙ ap (enter_rows s n) (split ∙ ap (entered_first p t place) long),
     )
 
+-- the tick's octet times and frames, by what the shape says of them
+pub at-of : (p : Params) (place next n f : ℕ) → n ≡ octets_per_tick p → f ≡ p.f
+    → (n * place + next) % f ≡ 0 → (octets_per_tick p * place + next) % p.f ≡ 0
+at-of p place next n f per_tick size at =
+    sym (ap₂ (λ (a b : ℕ). (a * place + next) % b) per_tick size) ∙ at
+
+-- frames begin every p.f octets from octet `first` on
+spaced : (p : Params) (t place first k : ℕ) → 0 < p.f
+    → (octets_per_tick p * place + first) % p.f ≡ 0 → first < p.f
+    → (length (entered_first p t place (first + k * p.f)) ≡ k)
+    × ((octets_per_tick p * place + (first + k * p.f)) % p.f ≡ 0)
+unfolding numbers_from
+spaced p t place first zero some at near =
+    let same : first + 0 * p.f ≡ first = omega arith in
+    rw same (ap length (entered-to p t place 0 first at (omega arith) (omega arith)), at)
+spaced p t place first (suc k) some at near =
+    let j = first + k * p.f in
+    let had = spaced p t place first k some at near in
+    let counted = had.0 in
+    let here = had.1 in
+    let next : first + suc k * p.f ≡ j + p.f = omega arith in
+    let after = frame-after p (octets_per_tick p * place) j some here in
+    let begins : begins_frame p place j ≡ true = eq-eqb _ 0 here in
+    let old : List ℕ = entered_first p t place j in
+    let long = ap length (entered-to p t place (j + 1) (j + p.f) after (omega arith) (omega arith)
+    ∙ entered-begins p t place j begins)
+    ∙ length-append old ((octets_per_tick p * t + j) ∷ []) in
+    rw next ((omega arith), after)
+
+beginnings-are : (p : Params) (place first count : ℕ) → 0 < p.f
+    → (octets_per_tick p * place + first) % p.f ≡ 0 → first < p.f
+    → octets_per_tick p ≤ first + count * p.f → first + count * p.f < octets_per_tick p + p.f
+    → count ≡ length (beginnings p (Some place))
+beginnings-are p place first count some at near reach within =
+    let had = spaced p 0 place first count some at near in
+    sym had.0
+    ∙ ap length (entered-to p 0 place (octets_per_tick p) (first + count * p.f) had.1 reach within)
+    ∙ length-map (beginnings p (Some place)) (λ j. octets_per_tick p * 0 + j)
+
+-- how many begin, where the first one begins in the tick
+pub beginnings-from : (p : Params) (place first : ℕ) → 0 < p.f
+    → (octets_per_tick p * place + first) % p.f ≡ 0 → first < p.f → first < octets_per_tick p
+    → 1 + (octets_per_tick p - first - 1) / p.f ≡ length (beginnings p (Some place))
+beginnings-from p place first some at near below =
+    let q = (octets_per_tick p - first - 1) / p.f in
+    let all : (1 + q) * p.f ≡ p.f + q * p.f = omega arith in
+    beginnings-are p place first (1 + q) some at near (omega arith) (omega arith)
+
+-- where it does not
+pub beginnings-none : (p : Params) (place first : ℕ) → 0 < p.f
+    → (octets_per_tick p * place + first) % p.f ≡ 0 → first < p.f → octets_per_tick p ≤ first
+    → 0 ≡ length (beginnings p (Some place))
+beginnings-none p place first some at near above =
+    beginnings-are p place first 0 some at near (omega arith) (omega arith)
+
 -- ---- the frames that leave
 
 -- frame i of those that leave
@@ -291,26 +346,79 @@ leaving-rest p end frames begun n m within =
           ∙ map-append frame_row (map f these) (map f others)),
     )
 
-count-more : (test : Mark → Bool) (ms : List Mark) (m : Mark)
-    → count_by test (ms ++ m ∷ []) ≡ count_by test ms + one_if (test m)
-count-more test ms m =
-    fold-append (λ (k : ℕ) (x : Mark). k + (if test x then 1 else 0)) 0 ms (m ∷ [])
+times-if : (b : Bool) (k : ℕ) → k * (if b then 1 else 0) ≡ (if b then k else 0)
+times-if true k = omega arith
+times-if false k = omega arith
 
--- one of their marks more
-pub marks-counted : (n : Totals) (ms : List Mark) (m : Mark)
-    → with_marks n (ms ++ m ∷ []) ≡ counted_mark (with_marks n ms) m
-marks-counted n ms m =
-    let long : n.delivered + length (ms ++ m ∷ []) ≡ n.delivered + length ms + 1 =
-    (let more = length-append ms (m ∷ []) in omega arith) in
-    let ok : n.ok + count_by is_ok (ms ++ m ∷ []) ≡ n.ok + count_by is_ok ms + one_if (is_ok m) =
-    (let more = count-more is_ok ms m in omega arith) in
-    let fixed : n.fixed + count_by is_fixed (ms ++ m ∷ [])
-    ≡ n.fixed + count_by is_fixed ms + one_if (is_fixed m) =
-    (let more = count-more is_fixed ms m in omega arith) in
-    let bad : n.bad + count_by is_bad (ms ++ m ∷ [])
-    ≡ n.bad + count_by is_bad ms + one_if (is_bad m) =
-    (let more = count-more is_bad ms m in omega arith) in
-    rw (long, ok, fixed, bad) refl
+count-kind : (test : Mark → Bool) (first others : Mark) (k n : ℕ)
+    → n + count_by test (first ∷ replicate k others)
+    ≡ n + (if test first then 1 else 0) + (if test others then k else 0)
+count-kind test first others k n =
+    let one : Mark → ℕ = λ m. if test m then 1 else 0 in
+    let begin : 0 + (if test first then 1 else 0) ≡ (if test first then 1 else 0) = omega arith in
+    let all : count_by test (first ∷ replicate k others)
+    ≡ (if test first then 1 else 0) + (if test others then k else 0) =
+    sum_by-append one (first ∷ []) (replicate k others)
+    ∙ ap₂ (λ (a b : ℕ). a + b) begin
+    (sum_by-replicate one k others ∙ times-if (test others) k) in
+    omega arith
+
+others-are : (fs : List Whole) (m : Mark)
+    → ((i : ℕ) → i < length fs → (get_or fs i no_frame).mark ≡ m)
+    → map (λ (f : Whole). f.mark) fs ≡ replicate (length fs) m
+others-are [] m each = refl
+others-are (f ∷ fs) m each =
+    ap₂ (λ a more. a ∷ more) (each 0 (omega arith))
+    (others-are fs m (λ i below. each (suc i) (omega arith)))
+
+-- the mark of the first frame, and that of all others
+marks-are : (f : Whole) (fs : List Whole) (first others : Mark)
+    → ((i : ℕ) → i < length (f ∷ fs) → (get_or (f ∷ fs) i no_frame).mark
+    ≡ (if i == 0 then first else others))
+    → map (λ (x : Whole). x.mark) (f ∷ fs) ≡ first ∷ replicate (length fs) others
+marks-are f fs first others each =
+    ap₂ (λ a more. a ∷ more) (each 0 (omega arith)) (others-are fs others (λ i below.
+    let later : suc i ≢ 0 = omega arith in
+    each (suc i) (omega arith) ∙ cond-false (suc i == 0) first others (ne_eqb (suc i) 0 later)))
+
+same-counts : (n : Totals) (d ok fixed bad d' ok' fixed' bad' : ℕ) → d ≡ d' → ok ≡ ok'
+    → fixed ≡ fixed' → bad ≡ bad'
+    → record n { delivered = d; ok = ok; fixed = fixed; bad = bad }
+    ≡ record n { delivered = d'; ok = ok'; fixed = fixed'; bad = bad' }
+same-counts n d ok fixed bad _ _ _ _ is_d is_ok is_fixed is_bad =
+    rw (is_d, is_ok, is_fixed, is_bad) refl
+
+-- the counts with these frames
+pub marks-counted : (n : Totals) (frames : List Whole) (first others : Mark)
+    → ((i : ℕ) → i < length frames → (get_or frames i no_frame).mark
+    ≡ (if i == 0 then first else others)) → 0 < length frames
+    → counted_marks (counted_marks n first 1) others (length frames - 1)
+    ≡ with_marks n (map (λ (f : Whole). f.mark) frames)
+marks-counted n [] first others each some = absurd (omega arith)
+marks-counted n (f ∷ fs) first others each some =
+    let k = length fs in
+    let rest : length (f ∷ fs) - 1 ≡ k = omega arith in
+    let many = length-replicate k others in
+    let long : n.delivered + 1 + k ≡ n.delivered + length (first ∷ replicate k others) =
+    omega arith in
+    let counted : counted_marks (counted_marks n first 1) others k
+    ≡ with_marks n (first ∷ replicate k others) =
+    same-counts n _ _ _ _ _ _ _ _ long
+    (sym (count-kind is_ok first others k n.ok)) (sym (count-kind is_fixed first others k n.fixed))
+    (sym (count-kind is_bad first others k n.bad)) in
+    ap (counted_marks (counted_marks n first 1) others) rest ∙ counted
+    ∙ sym (ap (with_marks n) (marks-are f fs first others each))
+
+-- where there are none
+pub none-counted : (n : Totals) (frames : List Whole) → length frames ≡ 0
+    → n ≡ with_marks n (map (λ (f : Whole). f.mark) frames)
+none-counted n [] none =
+    let delivered : n.delivered + 0 ≡ n.delivered = omega arith in
+    let ok : n.ok + 0 ≡ n.ok = omega arith in
+    let fixed : n.fixed + 0 ≡ n.fixed = omega arith in
+    let bad : n.bad + 0 ≡ n.bad = omega arith in
+    sym (rw (delivered, ok, fixed, bad) refl)
+none-counted n (f ∷ fs) none = absurd (omega arith)
 
 each-is : {A B : Type 0} (g : A → B) (xs : List A) (d : A)
     → map (λ i. g (get_or xs i d)) (numbers_from 0 (length xs)) ≡ map g xs
@@ -325,14 +433,6 @@ each-is {A} {B} g (x ∷ xs) d =
     (λ j below. let next : 1 + j ≡ suc j = omega arith in
     ap (λ (k : ℕ). g (get_or (x ∷ xs) k d)) next)
     ∙ each-is g xs d)
-
-pub none-counted : (n : Totals) → n ≡ with_marks n []
-none-counted n =
-    let delivered : n.delivered + 0 ≡ n.delivered = omega arith in
-    let ok : n.ok + 0 ≡ n.ok = omega arith in
-    let fixed : n.fixed + 0 ≡ n.fixed = omega arith in
-    let bad : n.bad + 0 ≡ n.bad = omega arith in
-    sym (rw (delivered, ok, fixed, bad) refl)
 
 -- the row of frame i of those that leave
 pub leaving-shown : (shown : Bool) (rows : List Printed) (p : Params) (end : ℕ)

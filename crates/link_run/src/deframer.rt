@@ -168,6 +168,14 @@ impl Deframer {
         if i == 0 { self.first } else { self.others }
     }
 
+    /// The mark of the first of them, and that of the others.
+    pub fn marks(&self) -> (Mark, Mark)
+        ensures { (i : ℕ) → i < length self.now.frames → (get_or self.now.frames i no_frame).mark
+            ≡ (if i == 0 then result.0 else result.1) }
+    {
+        (self.first, self.others)
+    }
+
     /// Writes the octets of frame `i` of them: L·F octets, lane 0's first.
     pub fn write_frame(&self, i: usize, octets: &mut [u8])
         requires inside { i < length self.now.frames }

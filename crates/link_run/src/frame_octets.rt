@@ -24,6 +24,22 @@ pub(crate) fn add_octets(octets: &[u8], size: usize, at: usize, count: usize, ha
     ensures small { (m : ℕ) → All (λ v. v < m) handed.old
         → All (λ v. v < m * 256 ^ count) handed.new }
 {
+    match handed {
+        [only] => *only = joined(*only, &octets[at..at + count]),
+        _ => add_each(octets, size, at, count, handed),
+    }
+}
+
+// The same, lane by lane.
+fn add_each(octets: &[u8], size: usize, at: usize, count: usize, handed: &mut [u64])
+    requires octets { length octets.now ≡ length handed.old * size }
+    requires at { at + count ≤ size }
+    requires few { count ≤ 8 }
+    requires small { All (λ v. v < 256 ^ (8 - count)) handed.old }
+    ensures handed { handed.new ≡ with_octets octets.now size at count handed.old }
+    ensures small { (m : ℕ) → All (λ v. v < m) handed.old
+        → All (λ v. v < m * 256 ^ count) handed.new }
+{
     for (lane, number) in handed.iter_mut().enumerate() {
         let start = lane * size + at;
         *number = joined(*number, &octets[start..start + count]);

@@ -1,5 +1,5 @@
 //! The rows of a run, and what they count.
-ghost use Rattle.std.specs.Prelude.{◌≡◌, ◌<◌, ◌+◌, ◌*◌, ◌∷◌, [], false, length, if◌then◌else◌, Some, IfOk, IsTrue, get_or, is_ok, is_some};
+ghost use Rattle.std.specs.Prelude.{◌≡◌, ◌<◌, ◌≤◌, ◌+◌, ◌*◌, ◌∷◌, [], false, length, if◌then◌else◌, Some, IfOk, IsTrue, get_or, is_ok, is_some};
 ghost use Rattle.link_params.specs.declared.fields.Params.{Params};
 ghost use Rattle.scenario.specs.declared.report_row.Row.TheVariants as row;
 ghost use Rattle.scenario.specs.Limits.{has_words};
@@ -8,7 +8,7 @@ ghost use Rattle.sample_map.specs.Frames.{words_of};
 ghost use Rattle.link_model.specs.Report.{bare, prints_all, prints_frames};
 ghost use Rattle.link_run.specs.Rows.{HasWords, WasHanded};
 ghost use Rattle.link_run.specs.kept.Gathered.{no_frame};
-ghost use Rattle.link_run.specs.kept.Printing.{counted_mark, no_totals};
+ghost use Rattle.link_run.specs.kept.Printing.{counted_marks, no_totals};
 
 use crate::deframer::Deframer;
 use crate::rows::Rows;
@@ -165,18 +165,31 @@ impl Report {
         rows.row(&Row::Enter(time), &self.words)
     }
 
-    /// A frame with this mark is delivered.
-    pub fn count(&mut self, mark: Mark)
-        requires count { self.old.totals.delivered < 4294967295 }
-        requires marks { (self.old.totals.ok < 4294967295) × (self.old.totals.fixed < 4294967295)
-            × (self.old.totals.bad < 4294967295) }
-        ensures { self.new ≡ record self.old { totals = counted_mark self.old.totals mark } }
+    /// So many source frames begin, and their rows are not handed on.
+    pub fn count_entries(&mut self, count: u32)
+        requires count { self.old.totals.entered + count ≤ 4294967295 }
+        ensures { self.new ≡ record self.old {
+          totals = record self.old.totals { entered = self.old.totals.entered + count };
+        } }
     {
-        self.totals.delivered += 1;
+        self.totals.entered += count;
+    }
+
+    /// So many frames with this mark are delivered.
+    pub fn count(&mut self, mark: Mark, count: u32)
+        requires count { self.old.totals.delivered + count ≤ 4294967295 }
+        requires marks { (self.old.totals.ok + count ≤ 4294967295)
+            × (self.old.totals.fixed + count ≤ 4294967295)
+            × (self.old.totals.bad + count ≤ 4294967295) }
+        ensures { self.new ≡ record self.old {
+          totals = counted_marks self.old.totals mark count;
+        } }
+    {
+        self.totals.delivered += count;
         match mark {
-            Mark::Ok => self.totals.ok += 1,
-            Mark::Fixed => self.totals.fixed += 1,
-            Mark::Bad => self.totals.bad += 1,
+            Mark::Ok => self.totals.ok += count,
+            Mark::Fixed => self.totals.fixed += count,
+            Mark::Bad => self.totals.bad += count,
         }
     }
 
@@ -225,8 +238,8 @@ impl Report {
         }
     }
 
-    // Whether frames that enter are handed on.
-    fn prints_entries(&self, s: &Scenario) -> bool
+    /// Whether frames that enter are handed on.
+    pub fn prints_entries(&self, s: &Scenario) -> bool
         ensures { (plan : Plan) → plan_of s.now ≡ Some plan
             → result ≡ (if self.now.short then false else prints_all plan.print) }
     {

@@ -1,5 +1,5 @@
 //! The rows of a tick.
-ghost use Rattle.std.specs.Prelude.{◌≡◌, ◌≤◌, ◌<◌, ◌+◌, ◌*◌, ◌%◌, ◌++◌, ◌∷◌, [], length, map, if◌then◌else◌, Some, IfSome, IsTrue, OnOk, is_ok, is_some};
+ghost use Rattle.std.specs.Prelude.{◌≡◌, ◌≤◌, ◌<◌, ◌+◌, ◌*◌, ◌/◌, ◌%◌, ◌++◌, ◌∷◌, [], length, map, if◌then◌else◌, Some, IfSome, IsTrue, OnOk, is_ok, is_some};
 ghost use Rattle.link_params.specs.declared.fields.Params.{Params};
 ghost use Rattle.scenario.specs.Limits.{has_words};
 ghost use Rattle.scenario.specs.declared.report_row.Row.TheVariants as row;
@@ -7,7 +7,7 @@ ghost use Rattle.scenario.specs.Plans.{Plan, plan_of};
 ghost use Rattle.link_model.specs.Kinds.{moment_of};
 ghost use Rattle.link_model.specs.Moments.{History};
 ghost use Rattle.link_model.specs.Report.{bares, decision_rows, enter_rows, frame_row, off_alarm, prints_all, prints_frames, rows_of_tick};
-ghost use Rattle.link_model.specs.Sends.{frames_before};
+ghost use Rattle.link_model.specs.Sends.{beginnings, frames_before};
 ghost use Rattle.link_run.specs.Rows.{WasHanded};
 ghost use Rattle.link_run.specs.kept.Gathered.{Whole, delivered_of};
 ghost use Rattle.link_run.specs.kept.Reported.{AreFew, AreFewFrames, HasReported, IsSeen};
@@ -89,6 +89,43 @@ fn add_entries<W: Rows>(
         × (report.new.short ≡ report.old.short) }
 {
     let Some(place) = place else { return Ok(()) };
+    if report.prints_entries(s) {
+        add_entry_rows(report, rows, s, t, place)
+    } else {
+        report.count_entries(entries_at(s, place));
+        Ok(())
+    }
+}
+
+// The same, a frame at a time, with their rows.
+#[inline(never)]
+fn add_entry_rows<W: Rows>(
+    report: &mut Report,
+    rows: &mut W,
+    s: &Scenario,
+    t: u32,
+    place: u32,
+) -> Result<(), Failed>
+    requires tick { t < 1048576 }
+    requires place { place < 1024 }
+    requires count { report.old.totals.entered + 8 ≤ 4294967295 }
+    requires same { report.old.params ≡ s.now.shape }
+    requires link { IsTrue (is_some s.now.link) }
+    requires shape { (p : Params) → W.shape rows.old ≡ Some p → p ≡ report.old.params }
+    requires some { IsTrue (has_words s.now.input) }
+    ensures handed { (plan : Plan) → plan_of s.now ≡ Some plan
+        → WasHanded W W.Took W.shape W.faults rows.old rows.new (is_ok result)
+        (if report.old.short then [] else (if prints_all plan.print
+        then enter_rows plan report.old.totals.entered (entered_at plan.link.params t (Some place))
+        else [])) }
+    ensures counts { OnOk result (report.new ≡ record report.old {
+      totals = record report.old.totals {
+        entered = report.old.totals.entered + length (entered_at s.now.shape t (Some place));
+      };
+    }) }
+    ensures params { (report.new.params ≡ report.old.params)
+        × (report.new.short ≡ report.old.short) }
+{
     let per_tick = s.shape.octets_per_tick();
     let size = s.shape.frame_octets();
     // The next octet of the tick that begins a frame.
@@ -98,6 +135,34 @@ fn add_entries<W: Rows>(
         next += size;
     }
     Ok(())
+}
+
+// How many frames begin in a tick that carries data at this place.
+fn entries_at(s: &Scenario, place: u32) -> u32
+    requires place { place < 1024 }
+    ensures { result ≡ length (beginnings s.now.shape (Some place)) }
+{
+    let per_tick = s.shape.octets_per_tick();
+    let size = s.shape.frame_octets();
+    let first = octets_to_frame(per_tick * place, size);
+    if first < per_tick {
+        1 + frames_in(per_tick - first - 1, size)
+    } else {
+        0
+    }
+}
+
+// How many frames so many octets of a lane hold.
+fn frames_in(octets: u32, size: u32) -> u32
+    requires some { 1 ≤ size }
+    ensures { result ≡ octets / size }
+{
+    match size {
+        1 => octets,
+        2 => octets / 2,
+        4 => octets / 4,
+        _ => octets / size,
+    }
 }
 
 // How many octets of a lane come before the next frame, from this octet on.
@@ -161,8 +226,11 @@ fn count_frames(report: &mut Report, frames: &Deframer)
     } }
     ensures few { length frames.now.frames ≤ 8 }
 {
-    for i in 0..frames.whole() {
-        report.count(frames.mark(i));
+    let whole = frames.whole();
+    let (first, others) = frames.marks();
+    if whole > 0 {
+        report.count(first, 1);
+        report.count(others, whole as u32 - 1);
     }
 }
 

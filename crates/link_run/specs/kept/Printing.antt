@@ -1,11 +1,10 @@
 -- What is kept of the rows of a run.
 -- Code: their counts.
-use Rattle.std.specs.Prelude.{◌+◌, Bool}
+use Rattle.std.specs.Prelude.{ℕ, ◌+◌, Bool, if◌then◌else◌}
 use Rattle.link_params.specs.declared.cells.Mark.{Mark}
 use Rattle.link_params.specs.declared.fields.Params.{Params}
 use Rattle.scenario.specs.declared.report_row.Totals.{Totals}
 use Rattle.link_model.specs.Report.{is_bad, is_fixed, is_ok}
-use Rattle.link_params.specs.Config.{one_if}
 
 -- the parameters of the frames, whether the first and the last row alone are handed on, and the
 -- counts
@@ -26,11 +25,11 @@ no_totals = record {
   fullest = 0;
 }
 
--- the counts with a frame of this mark more
-abbrev pub counted_mark : Totals → Mark → Totals
-counted_mark n m = record n {
-  delivered = n.delivered + 1;
-  ok = n.ok + one_if (is_ok m);
-  fixed = n.fixed + one_if (is_fixed m);
-  bad = n.bad + one_if (is_bad m);
+-- the counts with k frames of this mark more
+abbrev pub counted_marks : Totals → Mark → ℕ → Totals
+counted_marks n m k = record n {
+  delivered = n.delivered + k;
+  ok = n.ok + (if is_ok m then k else 0);
+  fixed = n.fixed + (if is_fixed m then k else 0);
+  bad = n.bad + (if is_bad m then k else 0);
 }

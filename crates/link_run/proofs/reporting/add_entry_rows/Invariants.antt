@@ -4,7 +4,7 @@ use Rattle.scenario.specs.Plans.{Plan, plan_of}
 use Rattle.link_model.specs.Report.{enter_rows, prints_all}
 use Rattle.link_run.specs.Rows.{WasHanded}
 use Rattle.link_run.proofs.TickRows.{entered_first}
-use Rattle.link_run.proofs.reporting.add_entries.Given as goal
+use Rattle.link_run.proofs.reporting.add_entry_rows.Given as goal
 
 abbrev pub decreases-loop-next : goal.decreases-loop-next
 decreases-loop-next g l = l.per_tick - l.next

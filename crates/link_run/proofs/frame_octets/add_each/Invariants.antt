@@ -1,6 +1,6 @@
 use Rattle.std.proofs.Common.{fold}
 use Rattle.link_run.proofs.FrameOctets.{Changed, behind, lane_octets}
-use Rattle.link_run.proofs.frame_octets.add_octets.Given as goal
+use Rattle.link_run.proofs.frame_octets.add_each.Given as goal
 
 abbrev pub invariant-loop-lane : goal.invariant-loop-lane
 invariant-loop-lane l = Changed
