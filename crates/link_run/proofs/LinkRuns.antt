@@ -329,7 +329,13 @@ has-met v lanes now s t h pairs runs rings at =
       at_next = at s.link.params (next_of s.link.params v.planning.tx.sending) h.at_next;
     }
 
--- the ticks before tick t, or a part of them, are over
+pub collecting-met : (old now : LinkView) → now ≡ record old {
+  lanes = now.lanes;
+  collecting = record old.collecting { ends = now.collecting.ends };
+} → now.collecting ≡ record old.collecting { ends = now.collecting.ends }
+collecting-met old now is = ap (λ (v : LinkView). v.collecting) is
+
+-- the ticks before tick `from` are all but a period of those before tick t
 pub up-to : (e : Ended) (s : Plan) (from t : ℕ) → IsBefore e s from t
     → (from ≤ t) × (t - from ≤ period s.link.params)
 up-to e s from t before = elim before [

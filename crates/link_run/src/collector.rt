@@ -1,12 +1,11 @@
 //! The cells of the lanes, joined to frames.
-ghost use Rattle.std.specs.Prelude.{◌≡◌, ◌≤◌, ◌<◌, ◌+◌, [], List, ℕ, suc, Option, length, get_or, map, if◌then◌else◌, IfOk};
+ghost use Rattle.std.specs.Prelude.{◌≡◌, ◌≤◌, ◌<◌, ◌+◌, [], ℕ, suc, Option, length, get_or, map, if◌then◌else◌, IfOk};
 ghost use Rattle.link_params.specs.declared.fields.Params.{Params as ParamsValue};
 ghost use Rattle.link_model.specs.kept.LaneRuns.{LaneRun};
 ghost use Rattle.bring_up.specs.Decisions.{is_running};
 ghost use Rattle.scenario.specs.Plans.{Plan};
 ghost use Rattle.link_model.specs.Kinds.{moment_of, run_of};
 ghost use Rattle.link_model.specs.kept.Before.{Columns};
-ghost use Rattle.lane_threads.specs.declared.lane_pair.LanePair.{LanePair as PairValue};
 ghost use Rattle.link_run.specs.kept.Collected.{CanCollect, Collects, HasCollected, IsLegalLink, lead_of};
 ghost use Rattle.link_run.specs.kept.Ends.{ArePairs, HaveCells};
 ghost use Rattle.link_run.specs.kept.Waits.{AreFilled, AreNext, HaveRoom, HaveWaiting, Waits, next_of};
@@ -23,8 +22,8 @@ use link_params::{LaneCell, Link, Mode, Shape};
 use std::alloc::Global;
 use std::marker::Model;
 
-/// The ends of the lanes' rings, the cells that were taken from them, and the frame that is gathered
-/// from these.
+/// The ends of the lanes' rings, the cells that were taken from them, and the frame that is
+/// gathered from these.
 #[derive(Drop)]
 pub struct Collector {
     ends: Vec<CellEnd>,

@@ -111,7 +111,8 @@ impl LinkState {
         let (lanes, segment) = (&mut self.lanes, &mut self.latest.segment);
         self.planner.plan(s, t, &happened, lanes, segment);
         let segment = &self.latest.segment;
-        self.lanes.carry(rt, workers, segment, gate, &mut self.collector);
+        self.lanes
+            .carry(rt, workers, segment, gate, &mut self.collector);
         let count = self.latest.segment.len() as u32;
         self.end(s, t + (count - 1));
         count

@@ -45,8 +45,8 @@ impl Waiting {
         }
     }
 
-    /// Takes the cells that are known to be at this end of the lane's ring, as many as there is room
-    /// for.
+    /// Takes the cells that are known to be at this end of the lane's ring, as many as there is
+    /// room for.
     pub fn fill(&mut self, end: &mut CellEnd)
         ensures { IsFilled self.old self.new end.old end.new }
     {

@@ -1,6 +1,6 @@
 -- The cells that were taken from the ends of the lanes' rings and wait to be joined to frames.
 -- Code: an array for each lane.
-use Rattle.std.specs.Prelude.{◌≡◌, ◌<◌, ◌≤◌, ℕ, ◌+◌, List, [], ◌∷◌, ◌++◌, length, get_or, Option, None, Some}
+use Rattle.std.specs.Prelude.{◌≡◌, ◌<◌, ◌≤◌, ℕ, List, [], ◌∷◌, ◌++◌, length, get_or, Option, None, Some}
 use Rattle.rtrb.specs.Ring.{SameConsumer, known_items, received}
 use Rattle.link_params.specs.declared.cells.LaneCell.{LaneCell}
 use Rattle.scenario.specs.Plans.{Plan}

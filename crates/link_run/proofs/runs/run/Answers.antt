@@ -159,7 +159,7 @@ loop-t-preserved g c =
       few =
           let (plan, is) = plan-there c.args.s.now c.loop-t.state.link had.link in
           subst (AreFew c.report_segment.new.report.totals) (sym (due-then g before-it plan is))
-              more.few;
+          more.few;
       params = (more.params.0 ∙ had.params.0, more.params.1 ∙ had.params.1);
       handed = λ plan is.
           let short = c.args.report.now.short in

@@ -16,7 +16,7 @@ use Rattle.link_run.specs.kept.Segments.{IsCarried, IsPlanned}
 use Rattle.link_run.specs.kept.Sendings.{next_of}
 use Rattle.link_run.proofs.Carrying.{can-carry}
 use Rattle.link_run.proofs.LaneStates.{link-of, plan-there}
-use Rattle.link_run.proofs.LinkRuns.{HasTaken, IsReady, carried-on, has-next, has-taken, is-ready, planned-carried, with_carried}
+use Rattle.link_run.proofs.LinkRuns.{HasTaken, IsReady, carried-on, collecting-met, has-next, has-taken, is-ready, planned-carried, with_carried}
 use Rattle.link_run.proofs.PlanFacts.{plan-facts}
 use Rattle.link_run.proofs.SameLanes.{have-widths}
 use Rattle.link_run.proofs.link_state.LinkState.run.Given.{Over}
@@ -87,7 +87,7 @@ taken-then g c s from is ready had =
     (λ n ran. subst (λ (k : Collecting). HaveCells k.ends s from n) (sym same)
     (c.meet.ensures.knows s from n ran had.cells))
     (subst (λ (k : Collecting). k ≡ record old.collecting { ends = k.ends }) (sym same)
-    (ap (λ (v : LinkView). v.collecting) c.meet.ensures.same))
+    (collecting-met old c.meet.new.self c.meet.ensures.same))
     c.carry.ensures.side.0 c.carry.ensures.side.1
 
 pub meet-requires : goal.meet-requires
