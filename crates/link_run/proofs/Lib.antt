@@ -24,7 +24,6 @@ pub mod TickRows
 pub mod LaneStates
 pub mod GiveFacts
 pub mod Collecting
-pub mod Filling
 pub mod SegmentFacts
 pub mod LinkRuns
 pub mod TickFacts
