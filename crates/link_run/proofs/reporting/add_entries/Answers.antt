@@ -1,4 +1,4 @@
-use Rattle.std.proofs.Common.{◌≡◌, ◌+◌, ◌*◌, ◌∙◌, [], if◌then◌else◌, Some, ap, arith}
+use Rattle.std.proofs.Common.{◌+◌, ◌*◌, ◌∙◌, [], if◌then◌else◌, Some, ap, arith}
 use Rattle.std.proofs.lemmas.List.{length-map}
 use Rattle.link_params.specs.Numbers.{octets_per_tick}
 use Rattle.link_model.specs.Report.{enter_rows, prints_all}

@@ -1,4 +1,4 @@
-use Rattle.std.proofs.Common.{◌≡◌, false, true, ℕ, ◌+◌, ◌*◌, ◌%◌, ◌<◌, ◌≤◌, ◌++◌, ◌∷◌, [], ◌∙◌, if◌then◌else◌, List, Option, Some, ap, ap₂, arith, length, length-append, sym}
+use Rattle.std.proofs.Common.{◌≡◌, false, true, ℕ, ◌+◌, ◌*◌, ◌%◌, ◌<◌, ◌≤◌, ◌++◌, ◌∷◌, [], ◌∙◌, if◌then◌else◌, List, Some, ap, arith, length, length-append, sym}
 use Rattle.std.proofs.lemmas.Bool.{eq-eqb}
 use Rattle.link_params.specs.declared.fields.Params.{Params}
 use Rattle.link_params.specs.Numbers.{octets_per_tick}
@@ -72,8 +72,7 @@ returns-in_err-enter-clause-handed g c = λ plan is.
     let below = c.loop-next-test.true in
     let (rest, split) = entries-rest plan p t place n (j + 1) (octets_per_tick p) (omega arith) in
     let first : List Printed = enter_rows plan n (entered_first p t place (j + 1)) in
-    let all : first ++ rest
-    ≡ enter_rows plan n (entered_at plan.link.params t (Some place)) = split
+    let all : first ++ rest ≡ enter_rows plan n (entered_at plan.link.params t (Some place)) = split
     ∙ ap (λ (q : Params). enter_rows plan n (entered_at q t (Some place)))
     (sym (same_params c.args.s.now plan is)) in
     handed-failed c.from_residual.result c.from_residual.ensures.0
@@ -155,7 +154,8 @@ returns-clause-handed g c = λ plan is.
     let all = ended p t c.args.place c.loop-next.next _ _
     c.octets_per_tick-per_tick.ensures.value c.frame_octets-size.ensures.value
     c.loop-next-test.false had.below had.at
-    ∙ ap (λ (q : Params). entered_at q t (Some c.args.place)) (sym (same_params c.args.s.now plan is)) in
+    ∙ ap (λ (q : Params). entered_at q t (Some c.args.place))
+    (sym (same_params c.args.s.now plan is)) in
     handed-same {whole = true} _ _ (ap (λ (os : List ℕ). if c.args.report.now.short then [] else
     (if prints_all plan.print then enter_rows plan n os else [])) all) (had.handed plan is)
 

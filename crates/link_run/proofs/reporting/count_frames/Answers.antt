@@ -1,4 +1,4 @@
-use Rattle.std.proofs.Common.{◌≡◌, ◌∙◌, ℕ, ◌-◌, ap, arith}
+use Rattle.std.proofs.Common.{◌∙◌, ℕ, ◌-◌, ap, arith}
 use Rattle.scenario.specs.declared.report_row.Totals.{Totals}
 use Rattle.link_run.specs.kept.Printing.{Printing, counted_marks}
 use Rattle.link_run.proofs.TickRows.{marks-counted}

@@ -1,5 +1,4 @@
-use Rattle.std.proofs.Common.{◌≡◌, ◌∙◌, ℕ, ◌+◌, ◌-◌, ◌/◌, ap, ap₂, arith}
-use Rattle.link_params.specs.Numbers.{octets_per_tick}
+use Rattle.std.proofs.Common.{◌∙◌, ℕ, ◌+◌, ◌-◌, ◌/◌, ap, ap₂, arith}
 use Rattle.link_run.proofs.TickRows.{at-of, beginnings-from, beginnings-none}
 use Rattle.link_run.proofs.reporting.entries_at.Goals as goal
 
