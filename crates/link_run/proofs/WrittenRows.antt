@@ -1,5 +1,5 @@
 -- What a run of a bench has written once its last lines are handed on.
-use Rattle.std.proofs.Common.{◌≡◌, ◌≤◌, ◌<◌, ℕ, Bool, true, false, List, [], ◌++◌, length, take, drop, Option, Some, Result, Ok, Err, OnOk, OnErr, IfOk, IsTrue, is_ok, subst, refl, sym, ap, ◌∙◌, inl, inr}
+use Rattle.std.proofs.Common.{◌≡◌, ◌≤◌, ℕ, Bool, true, false, List, [], ◌++◌, length, take, drop, Option, Some, Result, Ok, Err, OnOk, OnErr, IfOk, IsTrue, is_ok, subst, refl, sym, ap, ◌∙◌, inl, inr}
 use Rattle.std.proofs.Math.Seq.{take-length}
 use Rattle.std.proofs.lemmas.Bool.{cases_Bool, false≢true}
 use Rattle.std.proofs.lemmas.Grind.{flat_map-append}
@@ -17,7 +17,7 @@ use Rattle.link_model.specs.Report.{Printed, lines}
 use Rattle.link_run.specs.declared.bench.Played.{Played}
 use Rattle.link_run.specs.declared.bench.Played.TheVariants.{Quiet, Alarmed, Stopped}
 use Rattle.link_run.specs.Rows.{HasAlarms, HasWritten, WasHanded, alarms_in, is_done, is_whole, rows_handed}
-use Rattle.link_run.specs.kept.Lines.{HasAll, HasPrefix, TookLines, Writing, status_of}
+use Rattle.link_run.specs.kept.Lines.{HasPrefix, TookLines, Writing, status_of}
 use Rattle.link_run.proofs.TakenRows.{added-as, prefix-longer, rose-before, rose-later, stopped, taken-all, taken-prefix}
 
 lines-append : (s : Plan) (xs ys : List Printed) → lines s (xs ++ ys) ≡ lines s xs ++ lines s ys

@@ -1,5 +1,4 @@
-use Rattle.std.proofs.Common.{◌≡◌, ◌∙◌, ℕ, Some, true, false, sym, ap}
-use Rattle.link_params.specs.declared.fields.Params.{Params}
+use Rattle.std.proofs.Common.{◌∙◌, Some, sym, ap}
 use Rattle.link_params.specs.Links.{Link}
 use Rattle.scenario.specs.Plans.{plan_of}
 use Rattle.link_run.specs.Ran.{BenchView}

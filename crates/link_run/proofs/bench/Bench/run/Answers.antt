@@ -1,4 +1,4 @@
-use Rattle.std.proofs.Common.{◌≡◌, ◌≤◌, ◌∙◌, ℕ, [], Some, true, false, is_ok, refl, sym, subst, ap, arith}
+use Rattle.std.proofs.Common.{◌∙◌, false, is_ok, refl, sym, subst, ap, arith}
 use Rattle.scenario.specs.Plans.{plan_of}
 use Rattle.link_run.specs.Ran.{BenchView}
 use Rattle.link_run.specs.Rows.{HasWritten, is_whole, rows_handed}

@@ -1,4 +1,4 @@
-use Rattle.std.proofs.Common.{◌≡◌, length, refl, arith}
+use Rattle.std.proofs.Common.{refl, arith}
 use Rattle.link_run.proofs.KeptFrames.{count-kept}
 use Rattle.link_run.proofs.frame_list.FrameList.len.Goals as goal
 

@@ -1,7 +1,6 @@
-use Rattle.std.proofs.Common.{◌≡◌, ◌∙◌, List, [], None, ap, ap₂}
+use Rattle.std.proofs.Common.{◌∙◌, List, None, ap, ap₂}
 use Rattle.link_params.specs.declared.fields.Params.{Params}
 use Rattle.link_model.specs.Moments.{Delivered}
-use Rattle.link_run.specs.Frames.{Kept}
 use Rattle.link_run.specs.declared.frame_list.Left.{Left}
 use Rattle.link_run.specs.kept.FrameLists.{frames_kept}
 use Rattle.link_run.proofs.KeptFrames.{kept-none}

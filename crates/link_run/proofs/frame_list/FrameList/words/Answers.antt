@@ -1,5 +1,4 @@
-use Rattle.std.proofs.Common.{◌≡◌, ◌≤◌, ◌<◌, ◌+◌, ◌-◌, ◌*◌, ◌∙◌, length, take, drop, ℕ, List, refl, ap, ap₂, arith}
-use Rattle.std.proofs.Math.Nat.{mul-le-mul}
+use Rattle.std.proofs.Common.{◌≡◌, ◌<◌, ◌+◌, ◌-◌, ◌*◌, ◌∙◌, length, take, drop, ℕ, List, refl, ap, ap₂, arith}
 use Rattle.link_model.specs.Moments.{Delivered}
 use Rattle.link_run.proofs.KeptFrames.{count-kept, frame-kept, words-within}
 use Rattle.link_run.proofs.frame_list.FrameList.words.Goals as goal

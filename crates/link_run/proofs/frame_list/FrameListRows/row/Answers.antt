@@ -1,4 +1,4 @@
-use Rattle.std.proofs.Common.{◌≡◌, Some, refl, sym, ap, ◌∙◌}
+use Rattle.std.proofs.Common.{Some, refl, sym, ap}
 use Rattle.link_run.specs.Frames.{Kept}
 use Rattle.link_run.proofs.TakenFrames.{other-row, took-frame, took-other}
 use Rattle.link_run.proofs.frame_list.FrameListRows.row.Goals as goal

@@ -1,6 +1,5 @@
 use Rattle.std.proofs.Common.{◌∙◌, ◌+◌, sym, ap, subst}
 use Rattle.link_run.specs.contracts.link_state.LinkState.{the_view as view_of}
-use Rattle.link_run.specs.kept.Collected.{Collecting}
 use Rattle.link_run.specs.kept.Ends.{HaveCells}
 use Rattle.link_run.specs.kept.LinkStates.{HasRunLanes, LinkView}
 use Rattle.link_run.proofs.LinkRuns.{has-met, with_met}

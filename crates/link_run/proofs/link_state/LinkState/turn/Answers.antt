@@ -1,4 +1,4 @@
-use Rattle.std.proofs.Common.{◌+◌, suc, sym, subst}
+use Rattle.std.proofs.Common.{sym, subst}
 use Rattle.link_run.specs.kept.LinkStates.{HasReportedBefore}
 use Rattle.link_run.proofs.LinkRuns.{has-turned}
 use Rattle.link_run.proofs.link_state.LinkState.turn.Goals as goal

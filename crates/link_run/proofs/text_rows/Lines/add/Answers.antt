@@ -1,4 +1,4 @@
-use Rattle.std.proofs.Common.{◌≡◌, ◌≤◌, ◌+◌, ◌*◌, ◌∙◌, length, ap, arith}
+use Rattle.std.proofs.Common.{◌∙◌, length, ap, arith}
 use Rattle.link_run.specs.kept.Lines.{Gathered}
 use Rattle.link_run.proofs.LineLengths.{legal-short, length-row}
 use Rattle.link_run.proofs.text_rows.Lines.add.Goals as goal

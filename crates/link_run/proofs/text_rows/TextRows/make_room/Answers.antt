@@ -1,4 +1,4 @@
-use Rattle.std.proofs.Common.{◌≡◌, ◌≤◌, ◌∙◌, ℕ, List, [], take, false, true, Result, Ok, Err, OnOk, OnErr, refl, ap}
+use Rattle.std.proofs.Common.{◌≡◌, ◌≤◌, ℕ, List, [], take, false, true, Result, Ok, Err, OnOk, OnErr, ap}
 use Rattle.jesd_base.specs.Streams.{Added, Rose}
 use Rattle.link_model.specs.Report.{Printed}
 use Rattle.link_run.specs.kept.Lines.{TookLines, Writing}

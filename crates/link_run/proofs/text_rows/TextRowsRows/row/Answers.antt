@@ -1,6 +1,4 @@
-use Rattle.std.proofs.Common.{◌≡◌, ◌≤◌, ◌*◌, ◌∙◌, List, length, Result, Ok, Err, OnErr, refl, ap, arith}
-use Rattle.link_params.specs.declared.fields.Params.{Params}
-use Rattle.scenario.specs.declared.scenario_type.Scenario.{Scenario}
+use Rattle.std.proofs.Common.{◌*◌, ◌∙◌, Result, Ok, Err, OnErr, refl, ap, arith}
 use Rattle.link_run.proofs.LineLengths.{has-few}
 use Rattle.link_run.proofs.PlanFacts.{plan-facts}
 use Rattle.link_run.proofs.TakenRows.{took-failed, took-gathered}
