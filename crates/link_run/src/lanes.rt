@@ -1,5 +1,5 @@
 //! The lanes of a run.
-ghost use Rattle.std.specs.Prelude.{◌≡◌, ◌≤◌, ◌<◌, ◌+◌, ℕ, suc, [], length, get_or, slice_index, map, fold, max, true, false, Option, None, All, IfOk, IsTrue};
+ghost use Rattle.std.specs.Prelude.{◌≡◌, ◌≤◌, ◌<◌, ◌+◌, ℕ, suc, [], length, get_or, slice_index, map, fold, max, true, Option, None, All, IfOk, IsTrue};
 ghost use Rattle.link_params.specs.declared.fields.Params.{Params as ParamsValue};
 ghost use Rattle.link_params.specs.Laws.{is_b};
 ghost use Rattle.link_params.specs.Numbers.{period};
@@ -8,7 +8,6 @@ ghost use Rattle.scenario.specs.Limits.{flip_fits};
 ghost use Rattle.scenario.specs.Plans.{Plan, numbers_from};
 ghost use Rattle.link_model.specs.Kinds.{kind_of, moment_of, run_of};
 ghost use Rattle.link_model.specs.kept.LaneRuns.{LaneRun, lane_run, lane_stepped, no_run};
-ghost use Rattle.lane_threads.specs.declared.cell_end.CellEnd.{CellEnd as EndValue};
 ghost use Rattle.lane_threads.specs.declared.lane_pair.LanePair.{LanePair as PairValue};
 ghost use Rattle.lane_threads.specs.kept.LaneEnds.{params_in};
 ghost use Rattle.link_run.specs.kept.Ends.{ArePairs, HaveCells};
