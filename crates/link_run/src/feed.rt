@@ -8,11 +8,11 @@ ghost use Rattle.link_model.specs.Sends.{beginnings, handed_to};
 ghost use Rattle.link_run.specs.kept.Handed.{Hands, with_octets};
 ghost use Rattle.link_run.specs.kept.Seen.{HasFed};
 
-use crate::frame_octets::{add_octets, clear};
+use crate::frame_octets::{add_octets, clear, joined};
 use jesd_base::NoMemory;
 use link_params::place_in_frame;
 use sample_map::{Layout, layout_laws};
-use scenario::{Scenario, source_frame};
+use scenario::{Scenario, source_frame, source_frames};
 use std::alloc::Global;
 use std::marker::Model;
 
@@ -29,6 +29,8 @@ pub struct Feed {
     begun: u32,
     words: Vec<u32>,
     octets: Vec<u8>,
+    all_words: Vec<u32>,
+    all_octets: Vec<u8>,
 }
 
 impl Model for Feed {
@@ -62,6 +64,11 @@ impl Feed {
         else {
             return Err(NoMemory);
         };
+        let n = if per_tick % size == 0 { (per_tick / size) as usize } else { 0 };
+        let (Ok(all_octets), Ok(all_words)) = (vec![in alloc; 0u8; count * n], vec![in alloc; 0u32; s.shape.frame_words() as usize * n])
+        else {
+            return Err(NoMemory);
+        };
         let mut feed = Feed {
             layout: Layout::new(&s.shape),
             size,
@@ -74,6 +81,8 @@ impl Feed {
             begun: 0,
             words,
             octets,
+            all_words,
+            all_octets,
         };
         feed.lay_out(s, 0);
         Ok(feed)
@@ -116,9 +125,13 @@ impl Feed {
             (octets_per_tick self.old.params) handed.new }
         ensures small { All (λ v. v < 256 ^ octets_per_tick self.old.params) handed.new }
     {
-        let size = self.size;
-        for _frame in 0..frames {
-            self.hand_octets(s, 0, size, handed);
+        source_frames(s, u64::from(self.begun), &mut self.all_words);
+        self.layout.map_frames(&self.all_words, &mut self.all_octets);
+        self.begun += frames;
+        let (size, per_tick) = (self.size as usize, self.per_tick as usize);
+        match handed {
+            [only] => *only = joined(0, &self.all_octets),
+            _ => hand_all(&self.all_octets, size, handed),
         }
     }
 
@@ -203,5 +216,14 @@ impl Feed {
         let _params = s.shape.params();
         source_frame(s, u64::from(number), &mut self.words);
         self.layout.map(&self.words, &mut self.octets);
+    }
+}
+
+fn hand_all(octets: &[u8], size: usize, handed: &mut [u64]) {
+    let row = size * handed.len();
+    let mut from = 0;
+    while from < octets.len() {
+        add_octets(&octets[from..from + row], size, 0, size, handed);
+        from += row;
     }
 }

@@ -47,7 +47,7 @@ fn add_each(octets: &[u8], size: usize, at: usize, count: usize, handed: &mut [u
 }
 
 // A number with these octets behind it.
-fn joined(number: u64, octets: &[u8]) -> u64
+pub(crate) fn joined(number: u64, octets: &[u8]) -> u64
     requires few { length octets.now ≤ 8 }
     requires small { number < 256 ^ (8 - length octets.now) }
     ensures { result ≡ fold (λ v octet. v * 256 + octet) number octets.now }

@@ -53,6 +53,12 @@ impl Layout {
         self.grid.write_octets(words, out);
     }
 
+    /// Writes the octets of some frames, one after the other.
+    #[inline(always)]
+    pub fn map_frames(&self, words: &[u32], out: &mut [u8]) {
+        self.grid.write_octets(words, out);
+    }
+
     /// Reads the words of a frame from its octets, lane 0's first. Tail bits are ignored.
     ///
     /// `octets` are L·F octets, `words` has M·S places.

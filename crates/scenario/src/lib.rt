@@ -68,4 +68,4 @@ pub use reading_laws::{generated_plans, readings};
 pub use replace::replace_frames;
 pub use report_row::{Row, Totals};
 pub use scenario_type::Scenario;
-pub use source::source_frame;
+pub use source::{source_frame, source_frames};

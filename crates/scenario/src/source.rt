@@ -30,6 +30,28 @@ pub fn source_frame(s: &Scenario, n: u64, words: &mut [u32])
     }
 }
 
+/// Writes the words of source frames from `n` on, as many as `words` has places for.
+#[inline(always)]
+pub fn source_frames(s: &Scenario, n: u64, words: &mut [u32]) {
+    let size = s.shape.frame_words() as usize;
+    match &s.input {
+        Input::Ramp { start, step } => {
+            let before = n.wrapping_mul(size as u64);
+            let first = (*start as u64).wrapping_add((*step as u64).wrapping_mul(before));
+            ramp_words(first, *step, s.shape.word_bits(), words);
+        }
+        Input::Frames(frames) => {
+            let mut number = n;
+            let mut at = 0;
+            while at + size <= words.len() {
+                repeated_frame(frames, number, &mut words[at..at + size]);
+                number = number.wrapping_add(1);
+                at += size;
+            }
+        }
+    }
+}
+
 // Words from `first` on by `step`, modulo 2^bits.
 #[inline(always)]
 pub(crate) fn ramp_words(first: u64, step: u32, bits: u32, words: &mut [u32])
