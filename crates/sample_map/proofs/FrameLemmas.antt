@@ -129,7 +129,7 @@ octets_within g p e legal words octets some all r lt =
     let h = group_within r g.words (groups p) g.octets are.words_some (omega arith) in
     omega arith
 
-same_groups : (count w o words octets : ℕ) → count * w ≡ words → count * o ≡ octets → octets * w ≡ words * o
+pub same_groups : (count w o words octets : ℕ) → count * w ≡ words → count * o ≡ octets → octets * w ≡ words * o
 same_groups count w o words octets some all = ap (λ n. n * w) (sym all) ∙ omega arith ∙ ap (λ n. n * o) some
 
 pub as_many_groups : (g : Grouping) (p : Params) → g ≡ grouping p → broken_law p ≡ None → (words octets : List ℕ)

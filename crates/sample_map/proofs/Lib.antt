@@ -4,5 +4,6 @@ pub mod FrameLemmas
 pub mod GivesFrame
 pub mod GroupLemmas
 pub mod PlaceLemmas
+pub mod SeveralLemmas
 pub mod SizeLemmas
 pub mod WholeLemmas

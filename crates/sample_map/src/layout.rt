@@ -1,5 +1,5 @@
 //! The layout of a frame.
-ghost use Rattle.std.specs.Prelude.{◌≡◌, ℕ, ◌+◌, ◌*◌, ◌^◌, ◌<◌, length, slice_index};
+ghost use Rattle.std.specs.Prelude.{◌≡◌, ℕ, ◌+◌, ◌*◌, ◌^◌, ◌<◌, drop, length, slice_index, take};
 ghost use Rattle.sample_map.specs.Layout.{AreWords, IsFrame};
 
 use crate::grid::Grid;
@@ -53,9 +53,20 @@ impl Layout {
         self.grid.write_octets(words, out);
     }
 
-    /// Writes the octets of some frames, one after the other.
+    /// Writes the octets of n frames, one frame after the other, each as `map` writes it.
+    ///
+    /// `words` are the n·M·S words of the frames, all those of the first frame first. `out` has n·L·F octets.
     #[inline(always)]
-    pub fn map_frames(&self, words: &[u32], out: &mut [u8]) {
+    pub fn map_frames(&self, words: &[u32], out: &mut [u8])
+        ghost n: { ℕ }
+        requires words { length words.now ≡ n * (self.now.m * self.now.s) }
+        requires below { (r : ℕ) → r < length words.now
+            → slice_index words.now r < 2 ^ (self.now.n + self.now.cs) }
+        requires octets { length out.old ≡ n * (self.now.l * self.now.f) }
+        ensures { (i : ℕ) → i < n → IsFrame self.now
+            (take (self.now.m * self.now.s) (drop (i * (self.now.m * self.now.s)) words.now))
+            (take (self.now.l * self.now.f) (drop (i * (self.now.l * self.now.f)) out.new)) }
+    {
         self.grid.write_octets(words, out);
     }
 
