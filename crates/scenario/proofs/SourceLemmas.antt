@@ -1,16 +1,19 @@
 -- Ramps and repeated frames.
-use Rattle.std.proofs.Common.{◌≡◌, ℕ, suc, ◌+◌, ◌-◌, ◌*◌, ◌/◌, ◌%◌, ◌^◌, ◌<◌, ◌≤◌, ◌∙◌, List, [], ◌∷◌, length, map, take, drop, get_or, Option, Some, None, inl, inr, IsTrue, bit_and, refl, sym, ap, ap₂, arith, get_or-drop, get_or-take}
+use Rattle.std.proofs.Common.{◌≡◌, ℕ, zero, suc, ◌+◌, ◌-◌, ◌*◌, ◌/◌, ◌%◌, ◌^◌, ◌<◌, ◌≤◌, ◌∙◌, List, [], ◌∷◌, length, map, take, drop, get_or, Option, Some, None, inl, inr, IsTrue, bit_and, refl, sym, ap, ap₂, arith, get_or-drop, get_or-take}
 use Rattle.std.proofs.Math.Nat.{mod-add-mod, mul-le-mul_left, mul-le-mul_right, div-add-mod}
 use Rattle.std.proofs.Math.Pow.{mod-mod-pow}
 use Rattle.std.proofs.lemmas.Nat.{and_mask, mod_below, mul-mod_second, one_shl}
-use Rattle.std.proofs.lemmas.List.{length-take-le, length-drop}
+use Rattle.std.proofs.lemmas.List.{drop-take, length-take-le, length-drop}
+use Rattle.std.proofs.lemmas.Slice.{between-put_mid, take-put_mid_below}
+use borrow.Rule.Slice.PartMut.{put_mid}
 use Rattle.std.proofs.lemmas.Bool.{cases_lt}
 use Rattle.std.specs.Option.{ForSome}
 use Rattle.link_params.specs.declared.fields.Params.{Params}
 use Rattle.link_params.specs.Links.{Link}
 use Rattle.scenario.specs.declared.scenario_type.Scenario.{Scenario}
 use Rattle.scenario.specs.Limits.{has_words}
-use Rattle.scenario.specs.Plans.{Plan, Source, frame_of_source, numbers_from, plan_of, plan_with, source_frame, source_in}
+use Rattle.scenario.specs.Plans.{Plan, Source, Frames, Ramp, frame_of_source, numbers_from, plan_of, plan_with, source_frame, source_in}
+use Rattle.scenario.specs.Reads.{word_limit}
 
 from-items : (xs : List ℕ) (f : ℕ → ℕ) (b : ℕ)
     → ((k : ℕ) → k < length xs → get_or xs k 0 ≡ f (b + k))
@@ -89,7 +92,7 @@ some-frames size len whole some =
     ]
 
 -- a frame that is counted by division lies within
-frame-within : (frame size len : ℕ) → frame < len / size → frame * size + size ≤ len
+pub frame-within : (frame size len : ℕ) → frame < len / size → frame * size + size ≤ len
 frame-within frame size len lt =
     let m : (frame + 1) * size ≤ len / size * size =
     mul-le-mul_right size (let h : frame + 1 ≤ len / size = omega arith in h) in
@@ -143,3 +146,78 @@ pub as-planned : (s : Scenario) (n : ℕ) (words : List ℕ)
 as-planned s n words is plan read =
     let kept = plan-kept s plan read in is
     ∙ sym (frame-of plan s.shape (source_in s.input) n kept.params kept.source)
+
+-- ---- several frames, one after the other
+
+-- the words of frame i, of `size` words, after they were written
+pub frame-written : (xs ys : List ℕ) (size i k : ℕ) → i * size ≤ length xs → length ys ≡ size
+    → take size (drop (i * size) (put_mid (i * size) k xs ys)) ≡ ys
+frame-written xs ys size i k within len =
+    let at : ℕ = i * size in
+    let e : size ≡ at + size - at = omega arith in
+    ap (λ m. take m (drop at (put_mid at k xs ys))) e
+    ∙ between-put_mid at k xs ys (at + size) within (len ∙ e)
+
+-- and those of a frame before it
+pub frame-stays : (xs ys : List ℕ) (size i j k : ℕ) → i * size ≤ length xs → j < i
+    → take size (drop (j * size) (put_mid (i * size) k xs ys)) ≡ take size (drop (j * size) xs)
+frame-stays xs ys size i j k within lt =
+    let h : (j + 1) * size ≤ i * size =
+    mul-le-mul_right size (let q : j + 1 ≤ i = omega arith in q) in
+    sym (drop-take (j * size) size (put_mid (i * size) k xs ys))
+    ∙ ap (drop (j * size))
+    (take-put_mid_below (i * size) k xs ys (j * size + size) (omega arith) within)
+    ∙ drop-take (j * size) size xs
+
+at-number : (f : ℕ → ℕ) (b n k : ℕ) → k < n → get_or (map f (numbers_from b n)) k 0 ≡ f (b + k)
+unfolding numbers_from
+at-number f b zero k lt = absurd (omega arith)
+at-number f b (suc n) zero lt = let e : b ≡ b + 0 = omega arith in ap f e
+at-number f b (suc n) (suc k) lt =
+    let e : suc b + k ≡ b + suc k = omega arith in
+    at-number f (suc b) n k (omega arith) ∙ ap f e
+
+-- a part of a list by its items
+part-listed : (xs : List ℕ) (f h : ℕ → ℕ) (at size : ℕ)
+    → xs ≡ map f (numbers_from 0 (length xs)) → at + size ≤ length xs
+    → ((k : ℕ) → f (at + k) ≡ h k) → take size (drop at xs) ≡ map h (numbers_from 0 size)
+part-listed xs f h at size is within same =
+    let rest : size ≤ length (drop at xs) = rw length-drop (omega arith) in
+    let len : length (take size (drop at xs)) ≡ size = length-take-le size (drop at xs) rest in
+    listed (take size (drop at xs)) h
+    (λ k lt. let below : k < size = omega arith in
+    let in_all : at + k < length xs = omega arith in
+    let e : 0 + (at + k) ≡ at + k = omega arith in
+    get_or-take size (drop at xs) k 0 below
+    ∙ get_or-drop at xs k 0
+    ∙ ap (λ l. get_or l (at + k) 0) is
+    ∙ at-number f 0 (length xs) (at + k) in_all
+    ∙ ap f e
+    ∙ same k)
+    ∙ ap (λ m. map h (numbers_from 0 m)) len
+
+-- the frames of a ramp
+pub ramp-frames : (p : Params) (start step n bits count : ℕ) (words : List ℕ) → bits ≡ p.n + p.cs
+    → words ≡ map (λ k. (start + step * (n * (p.m * p.s) + k)) % 2 ^ bits)
+    (numbers_from 0 (length words))
+    → length words ≡ count * (p.m * p.s) → (i : ℕ) → i < count
+    → take (p.m * p.s) (drop (i * (p.m * p.s)) words) ≡ frame_of_source p (Ramp start step) (n + i)
+ramp-frames p start step n bits count words b is len i lt =
+    let size : ℕ = p.m * p.s in
+    let h : (i + 1) * size ≤ count * size =
+    mul-le-mul_right size (let q : i + 1 ≤ count = omega arith in q) in
+    part-listed words (λ k. (start + step * (n * size + k)) % 2 ^ bits)
+    (λ k. (start + step * ((n + i) * size + k)) % word_limit p) (i * size) size is (omega arith)
+    (λ k. let e : n * size + (i * size + k) ≡ (n + i) * size + k = omega arith in
+    ap₂ (λ x w. (start + step * x) % 2 ^ w) e b)
+
+-- the frames of frames that repeat
+pub repeated-frames : (p : Params) (frames words : List ℕ) (n count : ℕ)
+    → 0 < length frames / (p.m * p.s)
+    → ((i : ℕ) → i < count → take (p.m * p.s) (drop (i * (p.m * p.s)) words)
+    ≡ take (p.m * p.s)
+    (drop ((n + i) % (length frames / (p.m * p.s)) * (p.m * p.s)) frames))
+    → (i : ℕ) → i < count
+    → take (p.m * p.s) (drop (i * (p.m * p.s)) words) ≡ frame_of_source p (Frames frames) (n + i)
+repeated-frames p frames words n count some each i lt =
+    each i lt ∙ repeated frames (p.m * p.s) (n + i) some

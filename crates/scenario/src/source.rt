@@ -1,5 +1,5 @@
 //! The frames that go into a run.
-ghost use Rattle.std.specs.Prelude.{◌≡◌, ◌<◌, ◌≤◌, ◌+◌, ◌*◌, ◌/◌, ◌%◌, ◌^◌, length, take, drop, map, Some, IsTrue};
+ghost use Rattle.std.specs.Prelude.{◌≡◌, ℕ, ◌<◌, ◌≤◌, ◌+◌, ◌*◌, ◌/◌, ◌%◌, ◌^◌, length, take, drop, map, Some, IsTrue};
 ghost use Rattle.scenario.specs.Limits.{has_words};
 ghost use Rattle.scenario.specs.Plans.{Plan, frame_of_source, numbers_from, plan_of, source_frame, source_in};
 
@@ -19,8 +19,7 @@ pub fn source_frame(s: &Scenario, n: u64, words: &mut [u32])
     match &s.input {
         Input::Ramp { start, step } => {
             let before = n.wrapping_mul(words.len() as u64);
-            let first = (*start as u64).wrapping_add((*step as u64).wrapping_mul(before));
-            ramp_words(first, *step, s.shape.word_bits(), words);
+            ramp_from(*start, *step, before, s.shape.word_bits(), words);
         }
         Input::Frames(frames) => {
             // for what it ensures: a frame has a word at least
@@ -30,26 +29,40 @@ pub fn source_frame(s: &Scenario, n: u64, words: &mut [u32])
     }
 }
 
-/// Writes the words of source frames from `n` on, as many as `words` has places for.
+/// Writes the words of source frames from frame `n` on, one frame after the other, as many as
+/// `words` has M·S places for, each as `source_frame` writes it.
 #[inline(always)]
-pub fn source_frames(s: &Scenario, n: u64, words: &mut [u32]) {
+pub fn source_frames(s: &Scenario, n: u64, words: &mut [u32])
+    ghost count: { ℕ }
+    requires size { length words.old ≡ count * (s.now.shape.m * s.now.shape.s) }
+    requires some { IsTrue (has_words s.now.input) }
+    requires few { n + count ≤ 2 ^ 32 }
+    ensures source { (i : ℕ) → i < count → take (s.now.shape.m * s.now.shape.s)
+        (drop (i * (s.now.shape.m * s.now.shape.s)) words.new)
+        ≡ frame_of_source s.now.shape (source_in s.now.input) (n + i) }
+    ensures plan { (plan : Plan) → plan_of s.now ≡ Some plan → (i : ℕ) → i < count
+        → take (s.now.shape.m * s.now.shape.s)
+        (drop (i * (s.now.shape.m * s.now.shape.s)) words.new) ≡ source_frame plan (n + i) }
+{
     let size = s.shape.frame_words() as usize;
     match &s.input {
         Input::Ramp { start, step } => {
             let before = n.wrapping_mul(size as u64);
-            let first = (*start as u64).wrapping_add((*step as u64).wrapping_mul(before));
-            ramp_words(first, *step, s.shape.word_bits(), words);
+            ramp_from(*start, *step, before, s.shape.word_bits(), words);
         }
-        Input::Frames(frames) => {
-            let mut number = n;
-            let mut at = 0;
-            while at + size <= words.len() {
-                repeated_frame(frames, number, &mut words[at..at + size]);
-                number = number.wrapping_add(1);
-                at += size;
-            }
-        }
+        Input::Frames(frames) => repeated_frames(frames, size, n, words),
     }
+}
+
+// Words of a ramp from word `before` on, modulo 2^bits.
+#[inline(always)]
+fn ramp_from(start: u32, step: u32, before: u64, bits: u32, words: &mut [u32])
+    requires { bits ≤ 32 }
+    ensures { (p : ℕ) → before ≡ p % 2 ^ 64
+        → words.new ≡ map (λ k. (start + step * (p + k)) % 2 ^ bits) (numbers_from 0 (length words.old)) }
+{
+    let first = (start as u64).wrapping_add((step as u64).wrapping_mul(before));
+    ramp_words(first, step, bits, words);
 }
 
 // Words from `first` on by `step`, modulo 2^bits.
@@ -84,5 +97,22 @@ pub(crate) fn repeated_frame(frames: &[u32], n: u64, words: &mut [u32])
     if count > 0 {
         let frame = (n % count as u64) as usize;
         words.copy_from_slice(&frames[frame * size..(frame + 1) * size]);
+    }
+}
+
+// The words of the frames from frame `n` on, each modulo the number of frames. A frame has `size`
+// words.
+fn repeated_frames(frames: &[u32], size: usize, n: u64, words: &mut [u32])
+    ghost count: { ℕ }
+    requires some { 1 ≤ size }
+    requires size { length words.old ≡ count * size }
+    requires few { n + count ≤ 2 ^ 32 }
+    requires long { size ≤ length frames.now }
+    ensures { (i : ℕ) → i < count → take size (drop (i * size) words.new)
+        ≡ take size (drop ((n + i) % (length frames.now / size) * size) frames.now) }
+{
+    for i in 0..words.len() / size {
+        let at = i * size;
+        repeated_frame(frames, n + i as u64, &mut words[at..at + size]);
     }
 }

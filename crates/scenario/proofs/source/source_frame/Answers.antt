@@ -1,6 +1,6 @@
-use Rattle.std.proofs.Common.{◌≡◌, ℕ, List, ◌+◌, ◌*◌, ◌/◌, ◌%◌, ◌^◌, ◌∙◌, ◌≤◌, length, map, take, drop, rules, ap, ap₂, sym}
+use Rattle.std.proofs.Common.{◌≡◌, ℕ, List, ◌+◌, ◌*◌, ◌/◌, ◌%◌, ◌^◌, ◌∙◌, ◌≤◌, length, map, take, drop, rules, ap, ap₂, refl, sym}
 use Rattle.scenario.specs.Plans.{frame_of_source, numbers_from, source_in}
-use Rattle.scenario.proofs.SourceLemmas.{as-planned, map-same, ramp-word, repeated, some-frames}
+use Rattle.scenario.proofs.SourceLemmas.{as-planned, repeated, some-frames}
 use Rattle.scenario.proofs.source.source_frame.Goals as goal
 
 pub returns-in-Ramp : goal.returns-in-Ramp
@@ -11,18 +11,15 @@ returns-in-Ramp c =
     let size : ℕ = length c.args.words.now in
     let bits : ℕ = c.word_bits.result in
     let n : ℕ = c.args.n in
-    let written : c.ramp_words.new.words
-    ≡ map (λ k. ((start + (step * (n * size % 2 ^ 64)) % 2 ^ 64) % 2 ^ 64 + step * k) % 2 ^
-    bits) (numbers_from 0 (length c.args.words.now)) = c.ramp_words.ensures in
-    let source : c.ramp_words.new.words ≡ frame_of_source p (source_in c.args.s.now.input) n =
+    let written : c.ramp_from.new.words
+    ≡ map (λ k. (start + step * (n * size + k)) % 2 ^ bits) (numbers_from 0 size) =
+    c.ramp_from.ensures (n * size) refl in
+    let source : c.ramp_from.new.words ≡ frame_of_source p (source_in c.args.s.now.input) n =
     written
-    ∙ map-same (numbers_from 0 (length c.args.words.now)) _
-    (λ k. (start + step * (n * size + k)) % 2 ^ bits)
-    (λ k. ramp-word start step (n * size) k bits c.word_bits.ensures.bound)
     ∙ ap₂ (λ m b. map (λ k. (start + step * (n * m + k)) % 2 ^ b) (numbers_from 0 m))
     c.requires.size c.word_bits.ensures.value
     ∙ ap (λ i. frame_of_source p (source_in i) n) (sym c.in-Ramp.is) in
-    record { source = source; plan = as-planned c.args.s.now n c.ramp_words.new.words source }
+    record { source = source; plan = as-planned c.args.s.now n c.ramp_from.new.words source }
 
 pub returns-in-Frames : goal.returns-in-Frames
 returns-in-Frames c =
