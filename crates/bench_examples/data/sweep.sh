@@ -13,7 +13,8 @@
 set -u
 scenario=${1:?the scenario} lane=${2:-0}
 rbds=${RBDS:-$(seq 0 127)} delays=${DELAYS:-0}
-export BENCH=${BENCH:-$(dirname "$0")/../bench}
+top=$(cd "$(dirname "$0")/.." && pwd)
+export BENCH=${BENCH:-$top/bench}
 if [ ! -r "$scenario" ]; then
     echo "sweep: $scenario cannot be read" >&2
     exit 1
