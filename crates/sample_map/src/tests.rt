@@ -201,11 +201,24 @@ fn frame_comes_back(alloc: Global, params: &Params, seed: u64) -> Result<bool, F
     Ok(read == words)
 }
 
-/// Whether a few frames are read back.
+/// Whether four frames that are laid out at once are read back one by one.
 fn frames_come_back(alloc: Global, params: &Params, seed: u64) -> Result<bool, Fail> {
+    let shape = params.check().ok().ok_or("legal")?;
+    let size = (shape.lanes() * shape.frame_octets()) as usize;
+    let count = shape.frame_words() as usize;
+    let mut words = vec![in alloc; 0u32; 4 * count]?;
+    fill(&mut words, shape.word_bits(), seed);
+    if !are_below(&words, shape.word_bits()) {
+        return Ok(false);
+    }
+    let layout = Layout::new(&shape);
+    let mut octets = vec![in alloc; 0xffu8; 4 * size]?;
+    layout.map_frames(&words, &mut octets);
+    let mut read = vec![in alloc; 0xffffffffu32; count]?;
     let mut all = true;
-    for frame in 0..4u64 {
-        all &= frame_comes_back(alloc, params, seed.wrapping_add(frame))?;
+    for frame in 0..4 {
+        layout.unmap(&octets[frame * size..(frame + 1) * size], &mut read);
+        all &= read.as_slice() == &words[frame * count..(frame + 1) * count];
     }
     Ok(all)
 }
@@ -247,10 +260,9 @@ fn random_words_come_back(rt: HostRuntime) -> Result<(), Fail> {
         worded(sized(2, 3, 6, 1), 32, 32, 0, true),
     ];
     for (at, params) in table.iter().enumerate() {
-        assert!(rt;
-            frames_come_back(rt.alloc(), params, 4 * at as u64)?,
-            "at {at}"
-        );
+        let seed = 4 * at as u64;
+        assert!(rt; frame_comes_back(rt.alloc(), params, seed)?, "at {at}");
+        assert!(rt; frames_come_back(rt.alloc(), params, seed)?, "at {at}");
     }
     Ok(())
 }

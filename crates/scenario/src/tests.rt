@@ -1,7 +1,11 @@
 //! Tests.
-use crate::{Event, Flip, Input, Jitter, Job, Print, Scenario, ScenarioFault, What, read_scenario};
+use crate::{
+    Event, Flip, Input, Jitter, Job, Print, Scenario, ScenarioFault, What, read_scenario,
+    source_frame, source_frames,
+};
 use link_params::Device;
 use std::alloc::{AllocError, Global};
+use std::test::Fail;
 
 const MIB_4: usize = 4194304;
 
@@ -432,6 +436,46 @@ fn what_goes_into_a_run(rt: HostRuntime) {
         assert_eq!(rt; start_and_step(&scenario), ramp);
         assert_eq!(rt; words_of_frames(&scenario), words);
     }
+}
+
+/// Whether the words of five frames of this scenario, from frame `first` on, are those of each.
+fn frames_follow(alloc: Global, scenario: &Scenario, first: u32) -> Result<bool, Fail> {
+    if let Input::Frames(words) = &scenario.input {
+        if words.is_empty() {
+            return Ok(false);
+        }
+    }
+    let size = scenario.shape.frame_words() as usize;
+    let mut words = vec![in alloc; 0u32; 5 * size]?;
+    source_frames(scenario, u64::from(first), &mut words);
+    let mut word = vec![in alloc; 0u32; size]?;
+    let mut all = true;
+    for frame in 0..5 {
+        source_frame(scenario, u64::from(first) + frame as u64, &mut word);
+        all &= word.as_slice() == &words[frame * size..(frame + 1) * size];
+    }
+    Ok(all)
+}
+
+#[test]
+fn frames_at_once_and_one_by_one(rt: HostRuntime) -> Result<(), Fail> {
+    let table: [&[u8]; 4] = [
+        b"",
+        b"ramp,7,3\n",
+        b"frame,7\n",
+        b"frame,7\nframe,ffff\nframe,12\n",
+    ];
+    for (at, more) in table.iter().enumerate() {
+        let text = run_text(rt.alloc(), more, 1)?;
+        let scenario = read(rt.alloc(), Job::Run, &text).ok().ok_or("refused")?;
+        for first in [0, 1, 65_534] {
+            assert!(rt;
+                frames_follow(rt.alloc(), &scenario, first)?,
+                "at {at} from {first}"
+            );
+        }
+    }
+    Ok(())
 }
 
 #[test]

@@ -40,9 +40,10 @@ repeated_frames-requires g c =
     let fit = some-frames size (length frames) whole some in
     let value : c.frame_words-size.result ≡ size = c.frame_words-size.ensures.value in
     let long : c.frame_words-size.result ≤ length c.deref.result.now =
-    rw (value, c.deref.ensures.value) fit.0 in
-    (c.frame_words-size.ensures.some,
-    (c.requires.0 ∙ ap (λ m. g.count * m) (sym value), (c.requires.1.1, long)))
+    rw (value, c.deref.ensures.value) fit.0 in (
+      c.frame_words-size.ensures.some,
+      (c.requires.0 ∙ ap (λ m. g.count * m) (sym value), (c.requires.1.1, long)),
+    )
 
 pub returns-in-Frames : goal.returns-in-Frames
 returns-in-Frames g c =
