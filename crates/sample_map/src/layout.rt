@@ -55,19 +55,19 @@ impl Layout {
 
     /// Writes the octets of n frames, one frame after the other, each as `map` writes it.
     ///
-    /// `words` are the n·M·S words of the frames, all those of the first frame first. `out` has n·L·F octets.
+    /// `words` are the n·M·S words of the frames, all those of the first frame first. `octets` has n·L·F places.
     #[inline(always)]
-    pub fn map_frames(&self, words: &[u32], out: &mut [u8])
+    pub fn map_frames(&self, words: &[u32], octets: &mut [u8])
         ghost n: { ℕ }
         requires words { length words.now ≡ n * (self.now.m * self.now.s) }
         requires below { (r : ℕ) → r < length words.now
             → slice_index words.now r < 2 ^ (self.now.n + self.now.cs) }
-        requires octets { length out.old ≡ n * (self.now.l * self.now.f) }
+        requires octets { length octets.old ≡ n * (self.now.l * self.now.f) }
         ensures { (i : ℕ) → i < n → IsFrame self.now
             (take (self.now.m * self.now.s) (drop (i * (self.now.m * self.now.s)) words.now))
-            (take (self.now.l * self.now.f) (drop (i * (self.now.l * self.now.f)) out.new)) }
+            (take (self.now.l * self.now.f) (drop (i * (self.now.l * self.now.f)) octets.new)) }
     {
-        self.grid.write_octets(words, out);
+        self.grid.write_octets(words, octets);
     }
 
     /// Reads the words of a frame from its octets, lane 0's first. Tail bits are ignored.
