@@ -439,11 +439,9 @@ fn what_goes_into_a_run(rt: HostRuntime) {
 }
 
 /// Whether the words of five frames of this scenario, from frame `first` on, are those of each.
-fn frames_follow(alloc: Global, scenario: &Scenario, first: u32) -> Result<bool, Fail> {
-    if let Input::Frames(words) = &scenario.input {
-        if words.is_empty() {
-            return Ok(false);
-        }
+fn frames_follow(alloc: Global, scenario: &Scenario, first: u16) -> Result<bool, Fail> {
+    if scenario.link.is_none() {
+        return Ok(false);
     }
     let size = scenario.shape.frame_words() as usize;
     let mut words = vec![in alloc; 0u32; 5 * size]?;
