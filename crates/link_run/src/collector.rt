@@ -18,7 +18,7 @@ use crate::lanes::Lanes;
 use crate::waiting::Waiting;
 use jesd_base::NoMemory;
 use lane_threads::{CellEnd, Side};
-use link_params::{LaneCell, Link, Mode, Shape};
+use link_params::{Link, Mode, Shape};
 use std::alloc::Global;
 use std::marker::Model;
 
@@ -32,7 +32,6 @@ pub struct Collector {
     // to come.
     lead: u32,
     ahead: u32,
-    given: Vec<Option<LaneCell>>,
     deframer: Deframer,
 }
 
@@ -64,16 +63,12 @@ impl Collector {
         ensures empty { (s : Plan) (t : ℕ) → IfOk result (λ c. HaveWaiting c.waiting s t 0) }
     {
         let shape = link.shape();
-        let Ok(given) = vec![in alloc; None; shape.lanes() as usize] else {
-            return Err(NoMemory);
-        };
         let lead = lead_of(link);
         Ok(Collector {
             ends,
             waiting: open_waiting(alloc, &shape)?,
             lead,
             ahead: lead,
-            given,
             deframer: Deframer::open(alloc, &shape)?,
         })
     }
@@ -94,8 +89,7 @@ impl Collector {
             self.ahead -= 1;
             self.deframer.rest();
         } else {
-            take_each(self.waiting.as_mut_slice(), self.given.as_mut_slice());
-            self.deframer.take(&self.given);
+            self.deframer.take(&mut self.waiting);
         }
     }
 
@@ -165,19 +159,6 @@ fn fill_each(waiting: &mut [Waiting], ends: &mut [CellEnd])
 {
     for (lane, end) in ends.iter_mut().enumerate() {
         waiting[lane].fill(end);
-    }
-}
-
-// The next cell of each lane.
-fn take_each(waiting: &mut [Waiting], given: &mut [Option<LaneCell>])
-    requires count { length given.old ≡ length waiting.old }
-    requires some { (lane : ℕ) (w : Waits) → lane < length waiting.old
-        → 0 < length (get_or waiting.old lane w).cells }
-    ensures given { given.new ≡ map next_of waiting.old }
-    ensures taken { AreNext waiting.old waiting.new }
-{
-    for (lane, cells) in waiting.iter_mut().enumerate() {
-        given[lane] = Some(cells.next());
     }
 }
 

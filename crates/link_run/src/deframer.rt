@@ -7,8 +7,9 @@ ghost use Rattle.link_model.specs.kept.Before.{Columns, octet_columns};
 ghost use Rattle.link_run.specs.kept.Gathered.{FramesAre, HasGathered, no_frame};
 ghost use Rattle.link_run.specs.kept.FrameRows.{AreMoved, IsPut, IsWritten};
 
+use crate::waiting::Waiting;
 use jesd_base::NoMemory;
-use link_params::{LaneCell, Mark, Shape};
+use link_params::{Mark, Shape};
 use std::alloc::Global;
 use std::marker::Model;
 
@@ -132,7 +133,7 @@ impl Deframer {
     }
 
     /// What each lane gave in a tick, a cell each.
-    pub fn take(&mut self, given: &[Option<LaneCell>])
+    pub fn take(&mut self, waiting: &mut [Waiting])
         requires { length given.now ≡ self.old.params.l }
         ensures goes_on { (p : ParamsValue) (columns : Columns) (column : List CellValue)
             → HasGathered self.old p columns → given.now ≡ map (λ c. Some c) column
@@ -143,7 +144,7 @@ impl Deframer {
         ensures same { self.new.params ≡ self.old.params }
     {
         self.rest();
-        let worst = put(&mut self.rows, given, self.room, self.at, self.per_tick);
+        let worst = put(&mut self.rows, waiting, self.room, self.at, self.per_tick);
         let (whole, at) = frames_with(self.frames, self.size, self.at + self.per_tick);
         self.first = self.mark.worse(worst);
         self.others = worst;
@@ -242,18 +243,17 @@ fn mark_behind(whole: usize, at: usize, all: Mark, worst: Mark) -> Mark
 
 // The last `count` octets of each lane's cell, behind the first `at` octets of its row of `room`.
 // The worst of their marks.
-fn put(rows: &mut [u8], given: &[Option<LaneCell>], room: usize, at: usize, count: usize) -> Mark
+fn put(rows: &mut [u8], waiting: &mut [Waiting], room: usize, at: usize, count: usize) -> Mark
     requires size { length rows.old ≡ length given.now * room }
     requires within { at + count ≤ room }
     requires one_or_eight { (count ≡ 1) ⊎ (count ≡ 8) }
     ensures { IsPut rows.old rows.new given.now room at count result }
 {
     let mut worst = Mark::Ok;
-    for (lane, cell) in given.iter().enumerate() {
-        if let Some(cell) = cell {
-            write_octets(rows, lane * room + at, count, cell.value);
-            worst = worst.worse(cell.mark);
-        }
+    for (lane, cells) in waiting.iter_mut().enumerate() {
+        let cell = cells.next();
+        write_octets(rows, lane * room + at, count, cell.value);
+        worst = worst.worse(cell.mark);
     }
     worst
 }

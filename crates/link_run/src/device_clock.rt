@@ -64,6 +64,7 @@ impl DeviceClock {
 
     /// The phase of the clock in tick `t`, and that of an edge which comes off a boundary. `reset`:
     /// the device is reset in this tick.
+    #[inline(always)]
     pub fn tick(&mut self, jitters: &[Jitter], t: u32, reset: bool) -> ClockTick
         requires tick { t < 1048576 }
         requires jitters { All (λ j. IsTrue (jitter_fits j)) jitters.now }

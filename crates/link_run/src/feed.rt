@@ -8,7 +8,7 @@ ghost use Rattle.link_model.specs.Sends.{beginnings, handed_to};
 ghost use Rattle.link_run.specs.kept.Handed.{Hands, with_octets};
 ghost use Rattle.link_run.specs.kept.Seen.{HasFed};
 
-use crate::frame_octets::{add_octets, clear, joined};
+use crate::frame_octets::{add_frames, add_octets, clear, joined};
 use jesd_base::NoMemory;
 use link_params::place_in_frame;
 use sample_map::{Layout, layout_laws};
@@ -27,10 +27,10 @@ pub struct Feed {
     // The frames of a tick, where each tick has whole ones; else 0.
     frames: u32,
     begun: u32,
+    // Words and octets of the frame that began last or, where each tick has whole frames, of all
+    // those of a tick.
     words: Vec<u32>,
     octets: Vec<u8>,
-    all_words: Vec<u32>,
-    all_octets: Vec<u8>,
 }
 
 impl Model for Feed {
@@ -58,14 +58,15 @@ impl Feed {
         ensures shape { IfOk result (λ f. f.params ≡ s.now.shape) }
     {
         let (size, per_tick) = (s.shape.frame_octets(), s.shape.octets_per_tick());
-        let count = (s.shape.lanes() * size) as usize;
-        let words = s.shape.frame_words() as usize;
-        let (Ok(octets), Ok(words)) = (vec![in alloc; 0u8; count], vec![in alloc; 0u32; words])
-        else {
-            return Err(NoMemory);
+        let frames = if per_tick % size == 0 {
+            per_tick / size
+        } else {
+            0
         };
-        let n = if per_tick % size == 0 { (per_tick / size) as usize } else { 0 };
-        let (Ok(all_octets), Ok(all_words)) = (vec![in alloc; 0u8; count * n], vec![in alloc; 0u32; s.shape.frame_words() as usize * n])
+        let room = frames.max(1) as usize;
+        let octets = room * (s.shape.lanes() * size) as usize;
+        let words = room * s.shape.frame_words() as usize;
+        let (Ok(octets), Ok(words)) = (vec![in alloc; 0u8; octets], vec![in alloc; 0u32; words])
         else {
             return Err(NoMemory);
         };
@@ -73,18 +74,14 @@ impl Feed {
             layout: Layout::new(&s.shape),
             size,
             per_tick,
-            frames: if per_tick % size == 0 {
-                per_tick / size
-            } else {
-                0
-            },
+            frames,
             begun: 0,
             words,
             octets,
-            all_words,
-            all_octets,
         };
-        feed.lay_out(s, 0);
+        if frames == 0 {
+            feed.lay_out(s, 0);
+        }
         Ok(feed)
     }
 
@@ -106,17 +103,16 @@ impl Feed {
         ensures count { self.new.begun ≤ self.old.begun + 8 }
     {
         clear(handed);
-        let frames = self.frames;
         match place {
-            Some(_) if frames > 0 => self.hand_frames(s, frames, handed),
+            Some(_) if self.frames > 0 => self.hand_frames(s, handed),
             Some(place) => self.hand_rows(s, place, handed),
             None => {}
         }
     }
 
-    // The octets of a tick that has so many whole frames.
+    // The octets of a tick that has whole frames.
     #[inline(always)]
-    fn hand_frames(&mut self, s: &Scenario, frames: u32, handed: &mut [u64])
+    fn hand_frames(&mut self, s: &Scenario, handed: &mut [u64])
         requires shape { s.now.shape ≡ self.old.params }
         requires none { handed.old ≡ replicate self.old.params.l 0 }
         requires whole { frames * self.old.params.f ≡ octets_per_tick self.old.params }
@@ -125,13 +121,15 @@ impl Feed {
             (octets_per_tick self.old.params) handed.new }
         ensures small { All (λ v. v < 256 ^ octets_per_tick self.old.params) handed.new }
     {
-        source_frames(s, u64::from(self.begun), &mut self.all_words);
-        self.layout.map_frames(&self.all_words, &mut self.all_octets);
-        self.begun += frames;
-        let (size, per_tick) = (self.size as usize, self.per_tick as usize);
+        if s.link.is_none() {
+            return;
+        }
+        source_frames(s, u64::from(self.begun), &mut self.words);
+        self.layout.map_frames(&self.words, &mut self.octets);
+        self.begun += self.frames;
         match handed {
-            [only] => *only = joined(0, &self.all_octets),
-            _ => hand_all(&self.all_octets, size, handed),
+            [only] => *only = joined(0, &self.octets),
+            _ => add_frames(&self.octets, self.size as usize, handed),
         }
     }
 
@@ -216,14 +214,5 @@ impl Feed {
         let _params = s.shape.params();
         source_frame(s, u64::from(number), &mut self.words);
         self.layout.map(&self.words, &mut self.octets);
-    }
-}
-
-fn hand_all(octets: &[u8], size: usize, handed: &mut [u64]) {
-    let row = size * handed.len();
-    let mut from = 0;
-    while from < octets.len() {
-        add_octets(&octets[from..from + row], size, 0, size, handed);
-        from += row;
     }
 }

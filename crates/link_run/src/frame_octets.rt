@@ -30,6 +30,17 @@ pub(crate) fn add_octets(octets: &[u8], size: usize, at: usize, count: usize, ha
     }
 }
 
+/// Puts all octets of each lane behind the number of the lane: those of some frames, one after the
+/// other, each with `size` octets on a lane.
+pub(crate) fn add_frames(octets: &[u8], size: usize, handed: &mut [u64]) {
+    let all = size * handed.len();
+    let mut from = 0;
+    while from < octets.len() {
+        add_octets(&octets[from..from + all], size, 0, size, handed);
+        from += all;
+    }
+}
+
 // The same, lane by lane.
 fn add_each(octets: &[u8], size: usize, at: usize, count: usize, handed: &mut [u64])
     requires octets { length octets.now ≡ length handed.old * size }
@@ -53,10 +64,10 @@ pub(crate) fn joined(number: u64, octets: &[u8]) -> u64
     ensures { result ≡ fold (λ v octet. v * 256 + octet) number octets.now }
 {
     match octets {
+        [a, b, c, d, e, f, g, h] => u64::from_be_bytes([*a, *b, *c, *d, *e, *f, *g, *h]),
         [a] => number * 256 + u64::from(*a),
         [a, b] => number * 65_536 + u64::from(u16::from_be_bytes([*a, *b])),
         [a, b, c, d] => number * 4_294_967_296 + u64::from(u32::from_be_bytes([*a, *b, *c, *d])),
-        [a, b, c, d, e, f, g, h] => u64::from_be_bytes([*a, *b, *c, *d, *e, *f, *g, *h]),
         _ => joined_each(number, octets),
     }
 }
