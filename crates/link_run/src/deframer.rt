@@ -8,6 +8,7 @@ ghost use Rattle.link_run.specs.kept.Gathered.{FramesAre, HasGathered, no_frame}
 ghost use Rattle.link_run.specs.kept.FrameRows.{AreMoved, IsPut, IsWritten};
 
 use crate::waiting::Waiting;
+use crate::whole_frames::whole_frames;
 use jesd_base::NoMemory;
 use link_params::{Mark, Shape};
 use std::alloc::Global;
@@ -76,11 +77,7 @@ impl Deframer {
             size,
             at: 0,
             mark: Mark::Ok,
-            frames: if per_tick % size == 0 {
-                per_tick / size
-            } else {
-                0
-            },
+            frames: whole_frames(shape) as usize,
             whole: 0,
             first: Mark::Ok,
             others: Mark::Ok,

@@ -9,6 +9,7 @@ ghost use Rattle.link_run.specs.kept.Handed.{Hands, with_octets};
 ghost use Rattle.link_run.specs.kept.Seen.{HasFed};
 
 use crate::frame_octets::{add_frames, add_octets, clear, joined};
+use crate::whole_frames::whole_frames;
 use jesd_base::NoMemory;
 use link_params::place_in_frame;
 use sample_map::{Layout, layout_laws};
@@ -58,11 +59,7 @@ impl Feed {
         ensures shape { IfOk result (λ f. f.params ≡ s.now.shape) }
     {
         let (size, per_tick) = (s.shape.frame_octets(), s.shape.octets_per_tick());
-        let frames = if per_tick % size == 0 {
-            per_tick / size
-        } else {
-            0
-        };
+        let frames = whole_frames(&s.shape);
         let room = frames.max(1) as usize;
         let octets = room * (s.shape.lanes() * size) as usize;
         let words = room * s.shape.frame_words() as usize;

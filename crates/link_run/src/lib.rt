@@ -46,6 +46,7 @@ mod ticked;
 mod transmitter;
 mod tx_tick;
 mod waiting;
+mod whole_frames;
 
 pub use bench::{Bench, Played};
 pub use frame_list::FrameList;

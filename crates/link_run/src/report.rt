@@ -1,5 +1,6 @@
 //! The rows of a run, and what they count.
 ghost use Rattle.std.specs.Prelude.{◌≡◌, ◌<◌, ◌≤◌, ◌+◌, ◌*◌, ◌∷◌, [], false, length, if◌then◌else◌, Some, IfOk, IsTrue, get_or, is_ok, is_some};
+ghost use Rattle.link_params.specs.Numbers.{octets_per_tick};
 ghost use Rattle.link_params.specs.declared.fields.Params.{Params};
 ghost use Rattle.scenario.specs.declared.report_row.Row.TheVariants as row;
 ghost use Rattle.scenario.specs.Limits.{has_words};
@@ -12,6 +13,7 @@ ghost use Rattle.link_run.specs.kept.Printing.{counted_marks, no_totals};
 
 use crate::deframer::Deframer;
 use crate::rows::Rows;
+use crate::whole_frames::whole_frames;
 use jesd_base::{Failed, NoMemory};
 use link_params::{Alarm, Mark};
 use sample_map::{Layout, layout_laws};
@@ -27,13 +29,16 @@ pub struct Report {
     layout: Layout,
     words: Vec<u32>,
     octets: Vec<u8>,
+    // The frames of a tick, where each tick has whole ones; else 0.
+    frames: u32,
     short: bool,
     totals: Totals,
 }
 
 impl Model for Report {
-    ghost use Rattle.std.specs.Prelude.{◌≡◌, ◌*◌, None, length};
+    ghost use Rattle.std.specs.Prelude.{◌≡◌, ◌<◌, ◌*◌, None, length};
     ghost use Rattle.link_params.specs.Laws.{broken_law};
+    ghost use Rattle.link_params.specs.Numbers.{octets_per_tick};
     ghost use Rattle.link_run.specs.kept.Printing.{Printing};
 
     ghost Value = { Printing };
@@ -42,7 +47,8 @@ impl Model for Report {
 
     ghost invariant = { λ r. (length r.words.items ≡ r.layout.m * r.layout.s)
         × (length r.octets.items ≡ r.layout.l * r.layout.f)
-        × (broken_law r.layout ≡ None) };
+        × (broken_law r.layout ≡ None)
+        × (0 < r.frames → r.frames * r.layout.f ≡ octets_per_tick r.layout) };
 }
 
 impl Report {
@@ -66,6 +72,7 @@ impl Report {
             layout: Layout::new(&s.shape),
             words,
             octets,
+            frames: whole_frames(&s.shape),
             short: false,
             totals: Totals {
                 ticks: 0,
@@ -78,6 +85,13 @@ impl Report {
                 fullest: 0,
             },
         })
+    }
+
+    /// How many frames a tick has, where each tick has whole ones; else 0.
+    pub fn whole_frames(&self) -> u32
+        ensures { 0 < result → result * self.now.params.f ≡ octets_per_tick self.now.params }
+    {
+        self.frames
     }
 
     /// Whether the first and the last row alone are handed on.

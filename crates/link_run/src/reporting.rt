@@ -92,7 +92,7 @@ fn add_entries<W: Rows>(
     if report.prints_entries(s) {
         add_entry_rows(report, rows, s, t, place)
     } else {
-        report.count_entries(entries_at(s, place));
+        report.count_entries(entries_at(report, s, place));
         Ok(())
     }
 }
@@ -138,10 +138,15 @@ fn add_entry_rows<W: Rows>(
 }
 
 // How many frames begin in a tick that carries data at this place.
-fn entries_at(s: &Scenario, place: u32) -> u32
+fn entries_at(report: &Report, s: &Scenario, place: u32) -> u32
     requires place { place < 1024 }
+    requires same { report.now.params ≡ s.now.shape }
     ensures { result ≡ length (beginnings s.now.shape (Some place)) }
 {
+    let whole = report.whole_frames();
+    if whole > 0 {
+        return whole;
+    }
     let per_tick = s.shape.octets_per_tick();
     let size = s.shape.frame_octets();
     let first = octets_to_frame(per_tick * place, size);
