@@ -29,8 +29,9 @@ pub fn source_frame(s: &Scenario, n: u64, words: &mut [u32])
     }
 }
 
-/// Writes the words of source frames from frame `n` on, one frame after the other, as many as
-/// `words` has M·S places for, each as `source_frame` writes it.
+/// Writes the words of some source frames from frame `n` on, one frame after the other, each as
+/// `source_frame` writes it. `words` has M·S places for each of them, and their numbers are below
+/// 2^32. The input is a ramp or has a frame at least, as in every scenario of a run.
 #[inline(always)]
 pub fn source_frames(s: &Scenario, n: u64, words: &mut [u32])
     ghost count: { ℕ }
