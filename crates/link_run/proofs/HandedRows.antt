@@ -157,13 +157,6 @@ shown-both false true xs is = refl
 shown-both false false xs is = absurd (true≢false (sym is))
 
 -- and where one of them is not
-pub shown-neither : (short prints : Bool) (xs : List Printed)
-    → (if short then false else prints) ≡ false
-    → (if short then [] else (if prints then xs else [])) ≡ []
-shown-neither true prints xs is = refl
-shown-neither false true xs is = absurd (true≢false is)
-shown-neither false false xs is = refl
-
 pub shown-not : (short prints : Bool) (xs : List Printed)
     → (if short then false else prints) ≡ false
     → (if short then [] else (if prints then xs else [])) ≡ []

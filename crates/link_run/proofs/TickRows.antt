@@ -302,6 +302,24 @@ pub beginnings-none : (p : Params) (place first : ℕ) → 0 < p.f
 beginnings-none p place first some at near above =
     beginnings-are p place first 0 some at near (omega arith) (omega arith)
 
+some-octets : (b : Bool) → 0 < (if b then 1 else 8)
+some-octets true = omega arith
+some-octets false = omega arith
+
+factor-some : (n f o : ℕ) → n * f ≡ o → 0 < o → 0 < f
+factor-some n zero o is some = absurd (omega arith)
+factor-some n (suc f) o is some = omega arith
+
+-- where each tick has whole frames
+pub beginnings-whole : (p : Params) (place frames : ℕ) → frames * p.f ≡ octets_per_tick p
+    → frames ≡ length (beginnings p (Some place))
+beginnings-whole p place frames whole =
+    let some = factor-some frames p.f (octets_per_tick p) whole (some-octets (is_b p.mode)) in
+    let before : octets_per_tick p * place + 0 ≡ frames * place * p.f + 0 =
+    ap (λ (k : ℕ). k * place + 0) (sym whole) ∙ omega arith in
+    let at = ap (λ (k : ℕ). k % p.f) before ∙ mod-mul-add (frames * place) p.f 0 some in
+    beginnings-are p place 0 frames some at some (omega arith) (omega arith)
+
 -- ---- the frames that leave
 
 -- frame i of those that leave

@@ -1,6 +1,15 @@
-use Rattle.std.proofs.Common.{◌∙◌, ℕ, ◌+◌, ◌-◌, ◌/◌, ap, ap₂, arith}
-use Rattle.link_run.proofs.TickRows.{at-of, beginnings-from, beginnings-none}
+use Rattle.std.proofs.Common.{◌≡◌, ◌∙◌, ℕ, ◌+◌, ◌-◌, ◌*◌, ◌/◌, ap, ap₂, subst, arith}
+use Rattle.link_params.specs.declared.fields.Params.{Params}
+use Rattle.link_params.specs.Numbers.{octets_per_tick}
+use Rattle.link_run.proofs.TickRows.{at-of, beginnings-from, beginnings-none, beginnings-whole}
 use Rattle.link_run.proofs.reporting.entries_at.Goals as goal
+
+pub returns-then-whole-gt0 : goal.returns-then-whole-gt0
+returns-then-whole-gt0 c =
+    let frames = c.whole_frames-whole.result in
+    beginnings-whole c.args.s.now.shape c.args.place frames
+    (subst (λ (p : Params). frames * p.f ≡ octets_per_tick p) c.requires.same
+    (c.whole_frames-whole.ensures c.if-whole-gt0.true))
 
 pub returns-then-first-per_tick : goal.returns-then-first-per_tick
 returns-then-first-per_tick c =
