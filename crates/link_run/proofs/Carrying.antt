@@ -38,6 +38,7 @@ use Rattle.lane_threads.specs.kept.LaneEnds.{Follows, next_in, params_in}
 use Rattle.lane_threads.specs.kept.LaneRuns.{HasRunLane}
 use Rattle.link_run.specs.Given.{cells_at, cells_in, most_held}
 use Rattle.link_run.proofs.LaneLemmas.{HasGiven, HasMet, HaveChanged, HaveMet, are-at, have-run, head-of}
+use Rattle.link_run.proofs.TakenCells.{cells-few, cells-join}
 use Rattle.link_run.specs.kept.Ends.{ArePairs, HasCells, HaveCells}
 use Rattle.link_run.specs.kept.LaneRuns.{AreAt, AreOnRings, HasRing, HaveRings, HaveRunLanes}
 use Rattle.link_run.specs.kept.Segments.{CanCarry, FollowOn, IsCarried, IsOneSegment, Planned, next_before, step_of}
@@ -251,32 +252,6 @@ may-run g s t m lane first last laws timing of count follow =
       entry = λ n below gives. holds-entry n g s t m lane laws timing of (omega arith) gives;
     }
 
--- ---- the cells of a ring
-
-pushed-few : (o : Option LaneCell) → length (pushed o) ≤ 1
-pushed-few None = omega arith
-pushed-few (Some cell) = omega arith
-
-if-few : (b : Bool) (cells : List LaneCell) → length cells ≤ 1
-    → length (if b then cells else []) ≤ 1
-if-few true cells few = few
-if-few false cells few = omega arith
-
-cells-at-few : (s : Plan) (lane t : ℕ) → length (cells_at s lane t) ≤ 1
-cells-at-few s lane t =
-    let o : Option LaneCell = given_by (kind_of s.link.params) s (λ l. stepped_of s t l) lane in
-    if-few (is_running (moment_of s (run_of s t)).stage) (pushed o) (pushed-few o)
-
--- a lane gives at most one in each tick
-pub few-cells : (n : ℕ) (s : Plan) (lane t : ℕ) → length (cells_in s lane t n) ≤ n
-unfolding cells_in
-few-cells zero s lane t = omega arith
-few-cells (suc n) s lane t =
-    let before = few-cells n s lane t in
-    let one = cells-at-few s lane (t + n) in
-    let all = length-append (cells_in s lane t n) (cells_at s lane (t + n)) in
-    omega arith
-
 -- ---- all lanes
 
 can-run-by-lane : (steps : List Step) (gives : Bool) (lanes : List LanePair)
@@ -329,7 +304,7 @@ can-carry lanes g s t m first last c =
     let room = ring.count in
     let size = a.size in
     let same = ap period at.0 in
-    let sent_few = few-cells t s lane 0 in
+    let sent_few = cells-few t s lane 0 in
     let sent_is = ap length ring.cells in
     record {
       few = omega arith;
@@ -481,20 +456,6 @@ gave-rings old new n s t h all run rings runs lane d below =
 
 -- ---- the cells that the ends come to know
 
-pub cells-split : (n : ℕ) (s : Plan) (lane t : ℕ)
-    → cells_in s lane 0 (t + n) ≡ cells_in s lane 0 t ++ cells_in s lane t n
-unfolding cells_in
-cells-split zero s lane t =
-    let e : t + 0 ≡ t = omega arith in
-    ap (cells_in s lane 0) e ∙ sym (append-nil (cells_in s lane 0 t))
-cells-split (suc n) s lane t =
-    let e : t + suc n ≡ suc (t + n) = omega arith in
-    let same : 0 + (t + n) ≡ t + n = omega arith in
-    ap (cells_in s lane 0) e
-    ∙ ap (λ (i : ℕ). cells_in s lane 0 (t + n) ++ cells_at s lane i) same
-    ∙ ap (λ (l : List LaneCell). l ++ cells_at s lane (t + n)) (cells-split n s lane t)
-    ∙ append_assoc (cells_in s lane 0 t) (cells_in s lane t n) (cells_at s lane (t + n))
-
 pub met-pairs : (old new : List LanePair) (before after : List CellEnd) (n : ℕ)
     → HaveMet old new before after n → length new ≡ n → length after ≡ n → ArePairs new after
 met-pairs old new before after n h long same = record {
@@ -520,7 +481,7 @@ met-cells old new before after n h long same s t m rings cells lane e below =
     let all : cells_in s lane 0 t ++ known_items (get_or after lane e).ring
     ≡ cells_in s lane 0 t ++ cells_in s lane t m =
     ap (λ (l : List LaneCell). l ++ known_items (get_or after lane e).ring) (sym received_is)
-    ∙ met.fifo ∙ sent_is ∙ ring.cells ∙ cells-split m s lane t in
+    ∙ met.fifo ∙ sent_is ∙ ring.cells ∙ sym (cells-join m s lane t) in
     record {
       received_are = received_is;
       known_are = append_cancel_left (cells_in s lane 0 t)

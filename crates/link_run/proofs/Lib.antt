@@ -13,6 +13,7 @@ pub mod SameLanes
 pub mod Carrying
 pub mod Marks
 pub mod RowOctets
+pub mod NextCells
 pub mod Gathering
 pub mod Filling
 pub mod TakenCells

@@ -17,9 +17,8 @@ use Rattle.link_model.specs.Edges.{is_reset}
 use Rattle.link_model.specs.Kinds.{kind_of, moment_of, run_of}
 use Rattle.link_model.specs.kept.LaneRuns.{LaneRun, lane_ready, lane_run, lane_stepped, no_run}
 use Rattle.link_model.specs.Run.{run}
-use Rattle.link_run.proofs.Carrying.{few-cells}
 use Rattle.link_run.proofs.Collecting.{cells-last, cells-still, running}
-use Rattle.link_run.proofs.TakenCells.{filled-cells, filled-collected, filled-pairs, filled-waiting}
+use Rattle.link_run.proofs.TakenCells.{cells-few, filled-cells, filled-collected, filled-pairs, filled-waiting}
 use Rattle.link_run.proofs.GiveFacts.{lane-still}
 use Rattle.link_run.proofs.LaneStates.{have-same}
 use Rattle.link_run.proofs.Rooms.{IsGood, stepped-entry}
@@ -237,7 +236,7 @@ can-give lanes s t legal within ran rings goes lane d below =
     let runs = running (moment_of s (run_of s t)).stage goes in
     let good : IsGood s.link = record { laws = legal.laws; timing = legal.timing } in
     let r = rings lane d below in
-    let few = few-cells t s lane 0 in
+    let few = cells-few t s lane 0 in
     let sent_is = ap length r.cells in
     let count = r.count in
     (stepped-entry lanes s t good ran runs lane d below, omega arith)

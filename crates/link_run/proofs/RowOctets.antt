@@ -305,17 +305,6 @@ putting-more old mid now given room at n m mark cell lt there within wrote had =
       ∙ had.kept lane i in_lane;
 }
 
--- a lane that gave nothing
-pub putting-nothing : (old now : List ℕ) (given : List (Option LaneCell)) (room at n m : ℕ)
-    (mark : Mark) → m < length given → get_or given m None ≡ None
-    → IsPutting old now given room at n m mark → IsPutting old now given room at n (m + 1) mark
-putting-nothing old now given room at n m mark lt there had = record {
-  size = had.size;
-  worst = λ column all. (let in_lanes = (in-column given column m lt all).1 in absurd (cc));
-  put = λ column all. (let in_lanes = (in-column given column m lt all).1 in absurd (cc));
-  kept = had.kept;
-}
-
 pub all-put : (old now : List ℕ) (given : List (Option LaneCell)) (room at n m : ℕ) (mark : Mark)
     → m ≡ length given → IsPutting old now given room at n m mark
     → IsPut old now given room at n mark

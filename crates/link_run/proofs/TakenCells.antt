@@ -1,6 +1,5 @@
 -- The cells that are taken from the ends of the lanes' rings and wait.
-use Rattle.std.proofs.Common.{◌≡◌, ◌∙◌, ◌<◌, ◌≤◌, ◌+◌, ℕ, zero, suc, Bool, List, [], ◌∷◌, ◌++◌, length, get_or, Option, None, Some, inl, inr, arith, sym, ap, ap₂, subst, append_assoc, append-nil, length-append, replicate}
-use Rattle.std.proofs.lemmas.Bool.{cases_Bool, cond-false, cond-true}
+use Rattle.std.proofs.Common.{◌≡◌, ◌∙◌, ◌<◌, ◌≤◌, ◌+◌, ℕ, zero, suc, Bool, true, false, if◌then◌else◌, List, [], ◌∷◌, ◌++◌, length, get_or, Option, None, Some, arith, sym, ap, ap₂, subst, append_assoc, append-nil, length-append, replicate}
 use Rattle.std.proofs.lemmas.List.{get_or-replicate, length-replicate}
 use Rattle.rtrb.specs.Ring.{known_items}
 use Rattle.link_params.specs.declared.cells.LaneCell.{LaneCell}
@@ -44,24 +43,20 @@ room-filled old now (e ∷ before) after m each h room lane w below =
 
 pushed-few : (o : Option LaneCell) → length (pushed o) ≤ 1
 pushed-few None = omega arith
-pushed-few (Some c) = omega arith
+pushed-few (Some cell) = omega arith
+
+if-few : (b : Bool) (cells : List LaneCell) → length cells ≤ 1
+    → length (if b then cells else []) ≤ 1
+if-few true cells few = few
+if-few false cells few = omega arith
 
 cells-at-few : (s : Plan) (lane t : ℕ) → length (cells_at s lane t) ≤ 1
 cells-at-few s lane t =
     let k : LaneKind = kind_of s.link.params in
-    let o = given_by k s (λ l. lane_stepped k s (run_of s t) l) lane in
-    let b : Bool = is_running (moment_of s (run_of s t)).stage in
-    elim (cases_Bool b) [
-      | inl goes ↦
-          let is = ap length (cond-true b (pushed o) [] goes) in
-          let few = pushed-few o in
-          omega arith
-      | inr halts ↦
-          let is = ap length (cond-false b (pushed o) [] halts) in
-          omega arith
-    ]
+    let o : Option LaneCell = given_by k s (λ l. lane_stepped k s (run_of s t) l) lane in
+    if-few (is_running (moment_of s (run_of s t)).stage) (pushed o) (pushed-few o)
 
--- at most one in each tick
+-- a lane gives at most one in each tick
 pub cells-few : (n : ℕ) (s : Plan) (lane t : ℕ) → length (cells_in s lane t n) ≤ n
 unfolding cells_in
 cells-few zero s lane t = omega arith

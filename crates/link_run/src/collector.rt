@@ -1,5 +1,5 @@
 //! The cells of the lanes, joined to frames.
-ghost use Rattle.std.specs.Prelude.{◌≡◌, ◌≤◌, ◌<◌, ◌+◌, [], ℕ, suc, Option, length, get_or, map, if◌then◌else◌, IfOk};
+ghost use Rattle.std.specs.Prelude.{◌≡◌, ◌+◌, [], ℕ, suc, Option, length, if◌then◌else◌, IfOk};
 ghost use Rattle.link_params.specs.declared.fields.Params.{Params as ParamsValue};
 ghost use Rattle.link_model.specs.kept.LaneRuns.{LaneRun};
 ghost use Rattle.bring_up.specs.Decisions.{is_running};
@@ -8,7 +8,7 @@ ghost use Rattle.link_model.specs.Kinds.{moment_of, run_of};
 ghost use Rattle.link_model.specs.kept.Before.{Columns};
 ghost use Rattle.link_run.specs.kept.Collected.{CanCollect, Collects, HasCollected, IsLegalLink, lead_of};
 ghost use Rattle.link_run.specs.kept.Ends.{ArePairs, HaveCells};
-ghost use Rattle.link_run.specs.kept.Waits.{AreFilled, AreNext, HaveRoom, HaveWaiting, Waits, next_of};
+ghost use Rattle.link_run.specs.kept.Waits.{AreFilled, HaveRoom, HaveWaiting};
 ghost use Rattle.link_params.specs.Numbers.{period};
 ghost use Rattle.link_run.specs.kept.Gathered.{HasGathered};
 ghost use Rattle.link_run.specs.kept.LaneRuns.{AreAt, HaveRings, HaveRunLanes};
@@ -49,8 +49,7 @@ impl Model for Collector {
       gathering = c.deframer;
     } };
 
-    ghost invariant = { λ c. (length c.given.items ≡ c.deframer.params.l)
-        × (length c.waiting.items ≡ length c.ends.items) × (c.ahead ≤ c.lead) };
+    ghost invariant = { λ c. (length c.waiting.items ≡ length c.ends.items) × (c.ahead ≤ c.lead) };
 }
 
 impl Collector {

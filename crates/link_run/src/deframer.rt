@@ -6,6 +6,7 @@ ghost use Rattle.link_params.specs.declared.cells.Mark.TheVariants as mark;
 ghost use Rattle.link_model.specs.kept.Before.{Columns, octet_columns};
 ghost use Rattle.link_run.specs.kept.Gathered.{FramesAre, HasGathered, no_frame};
 ghost use Rattle.link_run.specs.kept.FrameRows.{AreMoved, IsPut, IsWritten};
+ghost use Rattle.link_run.specs.kept.Waits.{AreNext, Waits, next_of};
 
 use crate::waiting::Waiting;
 use crate::whole_frames::whole_frames;
@@ -129,15 +130,18 @@ impl Deframer {
         self.whole = 0;
     }
 
-    /// What each lane gave in a tick, a cell each.
+    /// What each lane gave in a tick, its next cell.
     pub fn take(&mut self, waiting: &mut [Waiting])
-        requires { length given.now ≡ self.old.params.l }
+        requires lanes { length waiting.old ≡ self.old.params.l }
+        requires some { (lane : ℕ) (w : Waits) → lane < length waiting.old
+            → 0 < length (get_or waiting.old lane w).cells }
         ensures goes_on { (p : ParamsValue) (columns : Columns) (column : List CellValue)
-            → HasGathered self.old p columns → given.now ≡ map (λ c. Some c) column
+            → HasGathered self.old p columns → map next_of waiting.old ≡ map (λ c. Some c) column
             → HasGathered self.new p (columns ++ octet_columns p column) }
         ensures frames { (p : ParamsValue) (columns : Columns) (column : List CellValue)
-            → HasGathered self.old p columns → given.now ≡ map (λ c. Some c) column
+            → HasGathered self.old p columns → map next_of waiting.old ≡ map (λ c. Some c) column
             → FramesAre self.new.frames p (length columns) (columns ++ octet_columns p column) }
+        ensures taken { AreNext waiting.old waiting.new }
         ensures same { self.new.params ≡ self.old.params }
     {
         self.rest();
@@ -238,13 +242,16 @@ fn mark_behind(whole: usize, at: usize, all: Mark, worst: Mark) -> Mark
     }
 }
 
-// The last `count` octets of each lane's cell, behind the first `at` octets of its row of `room`.
-// The worst of their marks.
+// Takes each lane's next cell: its last `count` octets come behind the first `at` octets of the
+// lane's row of `room`. The worst of their marks.
 fn put(rows: &mut [u8], waiting: &mut [Waiting], room: usize, at: usize, count: usize) -> Mark
-    requires size { length rows.old ≡ length given.now * room }
+    requires size { length rows.old ≡ length waiting.old * room }
+    requires some { (lane : ℕ) (w : Waits) → lane < length waiting.old
+        → 0 < length (get_or waiting.old lane w).cells }
     requires within { at + count ≤ room }
     requires one_or_eight { (count ≡ 1) ⊎ (count ≡ 8) }
-    ensures { IsPut rows.old rows.new given.now room at count result }
+    ensures put { IsPut rows.old rows.new (map next_of waiting.old) room at count result }
+    ensures taken { AreNext waiting.old waiting.new }
 {
     let mut worst = Mark::Ok;
     for (lane, cells) in waiting.iter_mut().enumerate() {

@@ -66,20 +66,16 @@ returns-else-self-gt0-clause-took c = λ s t n legal had cells hunts runs.
     let there = begun-cells old begun was s t _ c.self.view_is same cells in
     let goes = sym runs ∙ c.if-not-runs.false in
     let none : was.ahead ≡ 0 = (let past = c.if-self-gt0.false in omega arith) in
-    let waits : (with_items c.self.inside.waiting c.take_each.new.waiting).items
-    ≡ c.take_each.new.waiting =
-    with_items_is c.self.inside.waiting c.take_each.new.waiting
-    (c.take_each.auto.waiting ∙ c.as_mut_slice.ensures.len) in
-    let gave : c.deref.result.now ≡ map next_of was.waiting =
-    c.deref.ensures.value
-    ∙ with_items_is c.self.inside.given c.take_each.new.given
-    (c.take_each.auto.given ∙ c.as_mut_slice-else-self-gt0.ensures.len)
-    ∙ c.take_each.ensures.given ∙ ap (map next_of) c.as_mut_slice.ensures.value in
-    let taken : AreNext was.waiting (with_items c.self.inside.waiting c.take_each.new.waiting).items =
+    let waits : (with_items c.self.inside.waiting c.take.new.waiting).items ≡ c.take.new.waiting =
+    with_items_is c.self.inside.waiting c.take.new.waiting
+    (c.take.auto.waiting ∙ c.deref_mut.ensures.len) in
+    let gave : map next_of c.deref_mut.result.now ≡ map next_of was.waiting =
+    ap (map next_of) c.deref_mut.ensures.value in
+    let taken : AreNext was.waiting (with_items c.self.inside.waiting c.take.new.waiting).items =
     subst (AreNext was.waiting) (sym waits)
-    (subst (λ (xs : List Waits). AreNext xs c.take_each.new.waiting) c.as_mut_slice.ensures.value
-    c.take_each.ensures.taken) in
-    collects-late was _ c.deref.result.now s t n (is-run t s legal.laws legal.timing) left there
-    goes none refl taken gave refl refl
+    (subst (λ (xs : List Waits). AreNext xs c.take.new.waiting) c.deref_mut.ensures.value
+    c.take.ensures.taken) in
+    collects-late was _ (map next_of c.deref_mut.result.now) s t n
+    (is-run t s legal.laws legal.timing) left there goes none refl taken gave refl refl
     (λ columns column. c.take.ensures.goes_on s.link.params columns column)
     (λ columns column. c.take.ensures.frames s.link.params columns column)

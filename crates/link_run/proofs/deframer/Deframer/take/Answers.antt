@@ -1,6 +1,6 @@
 use Rattle.std.proofs.Common.{◌≡◌, ◌<◌, ◌+◌, ◌*◌, ◌∙◌, ◌++◌, ◌==◌, if◌then◌else◌, ℕ, List, length, map, Some, ap, ap₂, sym, subst, refl, inl, inr, arith}
 use Rattle.std.specs.Vec.{with_items}
-use Rattle.std.proofs.lemmas.List.{with_items_is}
+use Rattle.std.proofs.lemmas.List.{length-map, with_items_is}
 use Rattle.link_params.specs.declared.cells.LaneCell.{LaneCell}
 use Rattle.link_params.specs.declared.cells.Mark.{Mark}
 use Rattle.link_params.specs.declared.cells.Mark.TheVariants.{Ok as Good}
@@ -9,6 +9,7 @@ use Rattle.scenario.specs.Plans.{numbers_from}
 use Rattle.link_model.specs.kept.Before.{Columns, octet_columns}
 use Rattle.link_run.specs.kept.FrameRows.{IsPut, frame_in, whole_in}
 use Rattle.link_run.specs.kept.Gathered.{FramesAre, Gathering, HasGathered}
+use Rattle.link_run.specs.kept.Waits.{next_of}
 use Rattle.link_run.proofs.Gathering.{HasNext, count-frames, few-whole, frames-next, gathered-next, has-next}
 use Rattle.link_run.proofs.deframer.Deframer.take.Goals as goal
 use Rattle.link_run.proofs.deframer.Deframer.take.Goals.{After-self-5-1}
@@ -68,7 +69,7 @@ some c = elim c.self.invariant.one_or_eight [
 
 next : (c : After-self-5-1) (columns : Columns) (column : List LaneCell)
     → HasGathered c.args.self.now c.self.inside.shape columns
-    → c.args.given.now ≡ map (λ x. Some x) column
+    → map next_of c.args.waiting.now ≡ map (λ x. Some x) column
     → HasNext (shown c) c.self.inside.shape columns column c.self.inside.rows.items
     c.put-worst.new.rows c.self.inside.room c.self.inside.per_tick c.put-worst.result
 next c columns column had all =
@@ -79,15 +80,16 @@ next c columns column had all =
     (c.rest.ensures.gathered d.shape columns had) in
     let whole : d.whole ≡ 0 = sym (count-frames _ d.whole)
     ∙ ap (λ (g : Gathering). length g.frames) was ∙ ap length c.rest.ensures.nothing in
-    let count = c.requires ∙ ap (λ p. p.l) (sym c.rest.ensures.same)
-    ∙ ap (λ (g : Gathering). g.params.l) (sym was) in
+    let given = map next_of c.args.waiting.now in
+    let count = length-map c.args.waiting.now next_of ∙ c.requires.lanes
+    ∙ ap (λ p. p.l) (sym c.rest.ensures.same) ∙ ap (λ (g : Gathering). g.params.l) (sym was) in
     let within = c.self.invariant.within in
     let size = c.self.invariant.size_is in
-    let put : IsPut d.rows.items c.put-worst.new.rows c.args.given.now d.room d.at d.per_tick
-    c.put-worst.result = subst (λ (l : List ℕ). IsPut l c.put-worst.new.rows c.args.given.now d.room
-    d.at d.per_tick c.put-worst.result) c.deref_mut.ensures.value c.put-worst.ensures in
-    has-next (shown c) d.shape columns column d.rows.items c.put-worst.new.rows c.args.given.now
-    d.room d.per_tick c.put-worst.result rested all count (omega arith) c.self.invariant.ticks
+    let put : IsPut d.rows.items c.put-worst.new.rows given d.room d.at d.per_tick
+    c.put-worst.result = subst (λ (l : List ℕ). IsPut l c.put-worst.new.rows given d.room d.at
+    d.per_tick c.put-worst.result) c.deref_mut.ensures.value c.put-worst.ensures.put in
+    has-next (shown c) d.shape columns column d.rows.items c.put-worst.new.rows given d.room
+    d.per_tick c.put-worst.result rested all count (omega arith) c.self.invariant.ticks
     (some c) (ap (frame_in d.rows.items d.shape d.room) whole) put
 
 -- the parameters are those of the octets that were gathered
@@ -143,7 +145,7 @@ invariant_of-self c =
       whole_frames = i.whole_frames;
       no_rest = c.frames_with-whole.ensures.whole;
       room_is = i.room_is;
-      count = c.put-worst.ensures.size ∙ ap length c.deref_mut.ensures.value ∙ i.count;
+      count = c.put-worst.ensures.put.size ∙ ap length c.deref_mut.ensures.value ∙ i.count;
       within = c.frames_with-whole.ensures.within;
       fits = omega arith;
       few = few-whole _ _ _ _ _ count within (some c);
