@@ -1,13 +1,12 @@
 -- Rows that were handed on.
-use Rattle.std.proofs.Common.{◌≡◌, ℕ, zero, suc, ◌≤◌, ◌<◌, ◌+◌, ◌*◌, ◌^◌, Bool, true, false, List, [], ◌∷◌, ◌++◌, take, length, Option, Some, None, Result, Ok, Err, OnOk, OnErr, if◌then◌else◌, is_ok, IsErr, append-nil, append_assoc, arith, ap, inl, inr, sym, subst, refl, ◌∙◌}
+use Rattle.std.proofs.Common.{◌≡◌, ℕ, zero, suc, ◌≤◌, ◌<◌, ◌+◌, ◌*◌, ◌^◌, Bool, true, false, List, [], ◌∷◌, ◌++◌, take, length, Option, Some, Result, Ok, Err, OnOk, OnErr, if◌then◌else◌, is_ok, IsErr, append-nil, append_assoc, arith, ap, inl, inr, sym, subst, refl, ◌∙◌}
 use Rattle.std.proofs.Math.Seq.{take-append-add}
 use Rattle.std.proofs.lemmas.Bool.{cond-false, true≢false}
 use Rattle.std.proofs.lemmas.List.Elements.{All-from_get_or}
 use Rattle.jesd_base.specs.Streams.{Rose}
-use Rattle.link_params.specs.Links.{Link}
 use Rattle.link_params.specs.declared.fields.Params.{Params}
 use Rattle.scenario.specs.declared.scenario_type.Scenario.{Scenario}
-use Rattle.scenario.specs.Plans.{Plan, plan_of, plan_with, source_frame}
+use Rattle.scenario.specs.Plans.{Plan, plan_of, source_frame}
 use Rattle.sample_map.specs.Layout.{AreWords}
 use Rattle.link_model.specs.Report.{Printed}
 use Rattle.link_run.specs.Rows.{AreFrameWords, WasHanded}
@@ -148,15 +147,7 @@ shown-none a short xs none =
     handed-same [] _ (sym (ap (λ (ys : List Printed). if short then [] else ys) none
     ∙ none-shown short)) (handed-none a)
 
--- rows that are handed on where two things are so
-pub shown-both : (short prints : Bool) (xs : List Printed)
-    → (if short then false else prints) ≡ true
-    → (if short then [] else (if prints then xs else [])) ≡ xs
-shown-both true prints xs is = absurd (true≢false (sym is))
-shown-both false true xs is = refl
-shown-both false false xs is = absurd (true≢false (sym is))
-
--- and where one of them is not
+-- no rows are handed on where one of two things is not so
 pub shown-not : (short prints : Bool) (xs : List Printed)
     → (if short then false else prints) ≡ false
     → (if short then [] else (if prints then xs else [])) ≡ []
@@ -216,22 +207,6 @@ pub shape-kept : {A : Type 0} {took : A → A → List Printed → Type 0} {shap
     → WasHanded A took shape faults start now whole rows
     → ((q : Params) → shape start ≡ Some q → q ≡ p) → (q : Params) → shape now ≡ Some q → q ≡ p
 shape-kept p had of q is = of q (sym had.same_shape ∙ is)
-
--- what holds where there is a value
-pub still-ok : {T E A B : Type 0} (r : Result T E) → OnOk r A → (A → B) → OnOk r B
-still-ok (Ok x) had more = more had
-still-ok (Err e) had more = tt
-
--- the link of a plan
-pub link_of_plan : (o : Option Link) (s : Scenario) (plan : Plan) → plan_with o s ≡ Some plan
-    → o ≡ Some plan.link
-link_of_plan None s plan h = cc
-link_of_plan (Some k) s plan h = cc
-
-pub print_of_plan : (o : Option Link) (s : Scenario) (plan : Plan) → plan_with o s ≡ Some plan
-    → plan.print ≡ s.print
-print_of_plan None s plan h = cc
-print_of_plan (Some k) s plan h = cc
 
 -- the words of a frame of the source
 pub source-words : (s : Scenario) (plan : Plan) (n : ℕ) (p : Params) (words : List ℕ)

@@ -427,17 +427,6 @@ marks-counted n (f ∷ fs) first others each some =
     ap (counted_marks (counted_marks n first 1) others) rest ∙ counted
     ∙ sym (ap (with_marks n) (marks-are f fs first others each))
 
--- where there are none
-pub none-counted : (n : Totals) (frames : List Whole) → length frames ≡ 0
-    → n ≡ with_marks n (map (λ (f : Whole). f.mark) frames)
-none-counted n [] none =
-    let delivered : n.delivered + 0 ≡ n.delivered = omega arith in
-    let ok : n.ok + 0 ≡ n.ok = omega arith in
-    let fixed : n.fixed + 0 ≡ n.fixed = omega arith in
-    let bad : n.bad + 0 ≡ n.bad = omega arith in
-    sym (rw (delivered, ok, fixed, bad) refl)
-none-counted n (f ∷ fs) none = absurd (omega arith)
-
 each-is : {A B : Type 0} (g : A → B) (xs : List A) (d : A)
     → map (λ i. g (get_or xs i d)) (numbers_from 0 (length xs)) ≡ map g xs
 unfolding numbers_from
