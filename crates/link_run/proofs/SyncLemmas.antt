@@ -1,7 +1,6 @@
 -- The levels of SYNC~ that wait.
-use Rattle.std.proofs.Common.{◌≡◌, ℕ, suc, ◌+◌, ◌<◌, Bool, true, List, [], ◌∷◌, ◌++◌, length, replicate, take, drop, get_or, slice_set, sym, ap, ap₂, ◌∙◌, add-one, append_assoc, append-nil, length-append, length-drop, drop-cons, arith}
-use Rattle.std.proofs.Math.Seq.{drop-drop, drop-length, take-length}
-use Rattle.std.proofs.lemmas.List.{length-replicate, drop-append-le, drop-set-lt, take_more_set}
+use Rattle.std.proofs.Common.{◌≡◌, ℕ, suc, ◌+◌, ◌-◌, ◌<◌, Bool, true, List, [], ◌∷◌, ◌++◌, length, replicate, drop, get_or, sym, ap, ◌∙◌, add-one, append_assoc, length-append, drop-cons, arith}
+use Rattle.std.proofs.lemmas.List.{length-replicate, drop-append-le}
 use Rattle.link_run.specs.kept.Seen.{HasSynced}
 
 -- all levels that were and will be seen
@@ -33,23 +32,10 @@ one_more now delay lows low h =
           ∙ sym (ap (λ (k : ℕ). drop k (levels delay (lows ++ low ∷ []))) count);
     }
 
--- the levels of a row from place `next` on, around its end
-abbrev pub around : List Bool → ℕ → List Bool
-around row next = drop next row ++ take next row
-
--- the last place and the first one are next to each other
-pub around-end : (row : List Bool) → around row 0 ≡ around row (length row)
-around-end row = append-nil row
-    ∙ sym (ap₂ (λ (a b : List Bool). a ++ b) (drop-length row) (take-length row))
-
--- a level in the place of the next one is behind all others
-pub around-set : (row : List Bool) (next : ℕ) (low : Bool) → next < length row
-    → around (slice_set row next low) (next + 1) ≡ drop 1 (around row next) ++ low ∷ []
-around-set row next low inside =
-    let left = length-drop next row in
-    let first = drop-append-le 1 (drop next row) (take next row) (omega arith) in
-    ap₂ (λ (a b : List Bool). a ++ b)
-    (drop-set-lt (next + 1) row next low (omega arith) ∙ sym (drop-drop 1 next row))
-    (take_more_set row next low inside)
-    ∙ sym (append_assoc (drop 1 (drop next row)) (take next row) (low ∷ []))
-    ∙ sym (ap (λ (l : List Bool). l ++ low ∷ []) first)
+-- a full ring takes a level in place of its first one
+pub in_place : (now : List Bool) (room : ℕ) (low : Bool) → length now ≡ room → 0 < room
+    → drop (length (now ++ low ∷ []) - room) (now ++ low ∷ []) ≡ drop 1 now ++ low ∷ []
+in_place now room low full some =
+    let more = length-append now (low ∷ []) in
+    let one : length (now ++ low ∷ []) - room ≡ 1 = omega arith in
+    ap (λ (k : ℕ). drop k (now ++ low ∷ [])) one ∙ drop-append-le 1 now (low ∷ []) (omega arith)

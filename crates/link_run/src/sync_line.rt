@@ -3,6 +3,7 @@ ghost use Rattle.std.specs.Prelude.{◌≡◌, ◌<◌, ◌++◌, ◌∷◌, [],
 ghost use Rattle.link_run.specs.kept.Seen.{HasSynced};
 ghost use Rattle.link_model.specs.kept.Before.{seen_of};
 
+use circular_buffer::HeapCircularBuffer;
 use jesd_base::NoMemory;
 use std::alloc::Global;
 use std::marker::Model;
@@ -10,19 +11,17 @@ use std::marker::Model;
 /// The levels of SYNC~ that are on their way: true where it is low.
 #[derive(Drop)]
 pub struct SyncLine {
-    // The next one is at `next`, those after it follow, around the end.
-    levels: Vec<bool>,
-    next: usize,
+    levels: HeapCircularBuffer<bool>,
 }
 
 impl Model for SyncLine {
-    ghost use Rattle.std.specs.Prelude.{◌<◌, ◌++◌, Bool, List, drop, length, take};
+    ghost use Rattle.std.specs.Prelude.{◌≡◌, ◌<◌, Bool, List, length};
 
     ghost Value = { List Bool };
 
-    ghost view = { λ l. drop l.next l.levels.items ++ take l.next l.levels.items };
+    ghost view = { λ l. l.levels.items };
 
-    ghost invariant = { λ l. l.next < length l.levels.items };
+    ghost invariant = { λ l. (length l.levels.items ≡ l.levels.capacity) × (0 < l.levels.capacity) };
 }
 
 impl SyncLine {
@@ -33,8 +32,14 @@ impl SyncLine {
         requires { delay < 1024 }
         ensures { IfOk result (λ l. HasSynced l delay []) }
     {
-        match vec![in alloc; true; delay as usize + 1] {
-            Ok(levels) => Ok(SyncLine { levels, next: 0 }),
+        let room = delay as usize + 1;
+        match HeapCircularBuffer::with_capacity(alloc, room) {
+            Ok(mut levels) => {
+                for _ in 0..room {
+                    let _ = levels.push_back(true);
+                }
+                Ok(SyncLine { levels })
+            }
             Err(_) => Err(NoMemory),
         }
     }
@@ -44,7 +49,10 @@ impl SyncLine {
         ensures { (delay : ℕ) (lows : List Bool) → HasSynced self.now delay lows
             → result ≡ get_or (seen_of delay lows) (length lows) true }
     {
-        self.levels[self.next]
+        match self.levels.front() {
+            Some(low) => *low,
+            None => unreachable!(),
+        }
     }
 
     /// The level after this tick.
@@ -52,11 +60,7 @@ impl SyncLine {
         ensures { (delay : ℕ) (lows : List Bool) → HasSynced self.old delay lows
             → HasSynced self.new delay (lows ++ low ∷ []) }
     {
-        self.levels[self.next] = low;
-        self.next = if self.next + 1 == self.levels.len() {
-            0
-        } else {
-            self.next + 1
-        };
+        // the buffer is full: its first level goes
+        let _ = self.levels.push_back(low);
     }
 }
