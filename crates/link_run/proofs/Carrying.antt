@@ -1,5 +1,5 @@
 -- The lanes of a run through a segment: each goes through its ticks as the run says.
-use Rattle.std.proofs.Common.{◌≡◌, ◌∙◌, ◌<◌, ◌≤◌, ◌+◌, ◌&&◌, ◌++◌, ℕ, zero, suc, max, Bool, true, false, if◌then◌else◌, List, [], ◌∷◌, length, get_or, slice_index, Option, Some, None, refl, sym, ap, ap₂, subst, arith, append_assoc, append-nil, length-append}
+use Rattle.std.proofs.Common.{◌≡◌, ◌∙◌, ◌<◌, ◌≤◌, ◌+◌, ◌&&◌, ◌++◌, ℕ, zero, suc, max, Bool, true, false, if◌then◌else◌, List, [], ◌∷◌, length, get_or, slice_index, Option, None, refl, sym, ap, ap₂, subst, arith, append_assoc, append-nil}
 use Rattle.std.proofs.lemmas.Bool.{lt-ltb}
 use Rattle.std.proofs.lemmas.List.{append_cancel_left}
 use Rattle.rtrb.specs.Ring.{known_items, received, sent}

@@ -1,5 +1,5 @@
 -- The next cells of the lanes, taken one after another.
-use Rattle.std.proofs.Common.{◌≡◌, ◌≢◌, ◌∙◌, ◌<◌, ◌≤◌, ◌+◌, ◌∷◌, ℕ, List, map, length, get_or, set, Option, Some, None, inl, inr, arith, refl, sym, ap, subst, length-set}
+use Rattle.std.proofs.Common.{◌≡◌, ◌≢◌, ◌∙◌, ◌<◌, ◌≤◌, ◌+◌, ◌∷◌, ℕ, List, map, length, get_or, set, Some, None, inl, inr, arith, refl, sym, ap, subst, length-set}
 use Rattle.std.proofs.lemmas.Bool.{cases_lt}
 use Rattle.std.proofs.lemmas.List.{get_or-map, get_or-set_same, get_or-set_other, get_or_default}
 use Rattle.link_params.specs.declared.cells.LaneCell.{LaneCell}

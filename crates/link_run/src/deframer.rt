@@ -1,5 +1,5 @@
 //! Frames from the octets that the lanes give.
-ghost use Rattle.std.specs.Prelude.{◌≡◌, ◌<◌, ◌≤◌, ◌+◌, ◌-◌, ◌*◌, ◌/◌, ◌%◌, ◌^◌, ◌++◌, ◌==◌, ◌⊎◌, if◌then◌else◌, [], ℕ, List, get_or, slice_index, length, map, Some, None, IfOk};
+ghost use Rattle.std.specs.Prelude.{◌≡◌, ◌<◌, ◌≤◌, ◌+◌, ◌-◌, ◌*◌, ◌/◌, ◌%◌, ◌^◌, ◌++◌, ◌==◌, ◌⊎◌, if◌then◌else◌, [], ℕ, List, get_or, slice_index, length, map, Some, IfOk};
 ghost use Rattle.link_params.specs.declared.fields.Params.{Params as ParamsValue};
 ghost use Rattle.link_params.specs.declared.cells.LaneCell.{LaneCell as CellValue};
 ghost use Rattle.link_params.specs.declared.cells.Mark.TheVariants as mark;
@@ -130,7 +130,7 @@ impl Deframer {
         self.whole = 0;
     }
 
-    /// What each lane gave in a tick, its next cell.
+    /// Takes what each lane gave in a tick: its next cell.
     pub fn take(&mut self, waiting: &mut [Waiting])
         requires lanes { length waiting.old ≡ self.old.params.l }
         requires some { (lane : ℕ) (w : Waits) → lane < length waiting.old

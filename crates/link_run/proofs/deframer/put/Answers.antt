@@ -44,10 +44,10 @@ loop-lane-preserved c =
           c.loop-lane.worst cell (omega arith) there c.requires.within c.write_octets.ensures
           c.loop-lane.invariant.0),
       taken-more waiting c.loop-lane.waiting lane c.next-cell.new.self x test (record {
-          cell = cell;
-          first = c.next-cell.ensures.next;
-          same_room = c.next-cell.ensures.same;
-        }) taken,
+        cell = cell;
+        first = c.next-cell.ensures.next;
+        same_room = c.next-cell.ensures.same;
+      }) taken,
     )
 
 pub returns-clause-put : goal.returns-clause-put
