@@ -66,7 +66,8 @@ pub hands-more : (scenario : Scenario) (old now later : Fed) (x j at : ℕ) (han
     → Hands scenario old now x j handed
     → ((s : Plan) → plan_of scenario ≡ Some s → s.link.params ≡ old.params)
     → at ≡ (octets_per_tick old.params * x + j) % old.params.f
-    → later.params ≡ now.params → later.begun ≤ now.begun + 1
+    → later.params ≡ now.params → later.frames ≡ now.frames → later.begun ≤ now.begun + 1
+    → later.frames ≡ 0
     → length next ≡ length handed
     → next ≡ with_octet later.octets later.params.f at handed
     → ((s : Plan) (n : ℕ) → plan_of scenario ≡ Some s → HasFed now s n
@@ -160,7 +161,8 @@ pub hands-run : (scenario : Scenario) (old now later : Fed) (x j at n : ℕ) (ha
     → ((s : Plan) → plan_of scenario ≡ Some s → s.link.params ≡ old.params)
     → at ≡ (octets_per_tick old.params * x + j) % old.params.f
     → 1 ≤ n → at + n ≤ old.params.f
-    → later.params ≡ now.params → later.begun ≤ now.begun + 1
+    → later.params ≡ now.params → later.frames ≡ now.frames → later.begun ≤ now.begun + 1
+    → later.frames ≡ 0
     → next ≡ with_octets later.octets later.params.f at n handed
     → ((s : Plan) (n : ℕ) → plan_of scenario ≡ Some s → HasFed now s n
     → HasFed later s (n + (if at == 0 then 1 else 0)))
