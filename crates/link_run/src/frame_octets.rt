@@ -34,6 +34,8 @@ pub(crate) fn add_octets(octets: &[u8], size: usize, at: usize, count: usize, ha
 /// after the other, each with `size` octets on a lane.
 pub(crate) fn add_frames(octets: &[u8], size: usize, handed: &mut [u64])
     ghost n: { ℕ }
+    requires some { 0 < n }
+    requires all { 0 < length handed.old * size }
     requires octets { length octets.now ≡ n * (length handed.old * size) }
     requires few { n * size ≤ 8 }
     requires none { handed.old ≡ replicate (length handed.old) 0 }
