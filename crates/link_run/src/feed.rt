@@ -120,6 +120,9 @@ impl Feed {
         if s.link.is_none() {
             return;
         }
+        // for what they ensure: some words have one frame, and the shape obeys its laws
+        layout_laws();
+        let _params = s.shape.params();
         source_frames(s, u64::from(self.begun), &mut self.words);
         self.layout.map_frames(&self.words, &mut self.octets);
         self.begun += self.frames;
