@@ -18,6 +18,7 @@ use Rattle.scenario.specs.declared.input.Input.TheVariants as input
 use Rattle.scenario.specs.declared.scenario_type.Scenario.{Scenario}
 use Rattle.scenario.specs.Inputs.{input_words}
 use Rattle.scenario.specs.Plans.{Plan, source_word, source_in, source_frame, numbers_from, plan_of, plan_with}
+use Rattle.link_run.specs.kept.Seen.{HasFeedSizes, HasRoom}
 
 below_in : (xs : List ℕ) (r m : ℕ) → 0 < m → All (λ w. w < m) xs → get_or xs r 0 < m
 below_in xs r m some all = elim (cases_lt r (length xs)) [
@@ -99,3 +100,34 @@ pub left_in : (k : ℕ) (written before : List ℕ) → k ≡ length written
     → take k (written ++ drop (length written) before) ≡ written
 left_in k written before e = ap (λ (n : ℕ). take n (written ++ drop (length written) before)) e
     ∙ take-append_seam written (drop (length written) before)
+
+-- ---- the sizes of a feed
+
+still-room : (frames each : ℕ) (before now : List ℕ) → HasRoom frames each before
+    → length now ≡ length before → HasRoom frames each now
+still-room frames each before now h same = record {
+  of_one = λ none. same ∙ h.of_one none;
+  of_all = λ some. same ∙ h.of_all some;
+}
+
+-- what was written left them as they were
+pub still-sizes : (p : Params) (size per_tick frames : ℕ) (words octets : List ℕ)
+    (new_words new_octets : List ℕ) → HasFeedSizes p size per_tick frames words octets
+    → length new_words ≡ length words → length new_octets ≡ length octets
+    → HasFeedSizes p size per_tick frames new_words new_octets
+still-sizes p size per_tick frames words octets new_words new_octets h same_words same_octets =
+    record {
+      size_is = h.size_is;
+      some = h.some;
+      most = h.most;
+      per_tick_is = h.per_tick_is;
+      few = h.few;
+      whole = h.whole;
+      words_are = still-room frames (p.m * p.s) words new_words h.words_are same_words;
+      octets_are = still-room frames (p.l * p.f) octets new_octets h.octets_are same_octets;
+    }
+
+-- as long as what a slice's borrow wrote
+pub left_length : (k : ℕ) (written before : List ℕ) → k ≡ length written → k ≡ length before
+    → length (take k (written ++ drop (length written) before)) ≡ length before
+left_length k written before e same = ap length (left_in k written before e) ∙ sym e ∙ same

@@ -1,12 +1,14 @@
 -- Octets of a frame behind the numbers of the lanes.
-use Rattle.std.proofs.Common.{◌≡◌, ℕ, zero, suc, ◌+◌, ◌-◌, ◌*◌, ◌^◌, ◌<◌, ◌≤◌, List, [], ◌∷◌, All, fold, length, map, take, drop, get_or, slice_index, slice_set, refl, sym, ap, ◌∙◌, arith, drop-cons}
-use Rattle.std.proofs.Math.Nat.{mul_assoc, mul_comm, mul-le-mul_right, pow-le-pow_right, pow-suc}
-use Rattle.std.proofs.lemmas.List.{ext_get_or, get_or-map, length-map, length-take-le}
+use Rattle.std.proofs.Common.{◌≡◌, ℕ, zero, suc, ◌+◌, ◌-◌, ◌*◌, ◌/◌, ◌^◌, ◌<◌, ◌≤◌, List, [], ◌∷◌, All, fold, length, map, take, drop, get_or, slice_index, slice_set, refl, sym, ap, ap₂, ◌∙◌, arith, drop-cons}
+use Rattle.std.proofs.Math.Nat.{add-div_right, mul_assoc, mul_comm, mul-le-mul_right, pow-le-pow_right, pow-suc, suc-mul}
+use Rattle.std.proofs.Math.Seq.{take-add}
+use Rattle.std.proofs.lemmas.List.{ext_get_or, get_or-map, length-drop, length-map, length-take-le, take_all}
 use Rattle.std.proofs.lemmas.List.Elements.{All-from_get_or, All-get_or}
+use Rattle.std.proofs.lemmas.List.Sums.{fold-append}
 use Rattle.std.proofs.lemmas.Nat.{pow-add}
 use Rattle.scenario.specs.Plans.{numbers_from}
 use Rattle.link_model.proofs.NumberLists.{get_or-numbers, length-numbers, map-numbers}
-use Rattle.link_run.specs.kept.Handed.{with_octet, with_octets}
+use Rattle.link_run.specs.kept.Handed.{with_frames, with_octet, with_octets}
 
 -- ---- octets behind one number
 
@@ -178,4 +180,97 @@ with_octets-below octets size at (suc n) m handed each small = λ k d inside.
     let below = with_octets-below octets size (suc at) n (m * 256) next each
     (with_octet-below octets size at m handed each small) k d inside in
     let power = one-power m n in
+    omega arith
+
+-- ---- frame by frame
+
+pub length-with_octets : (octets : List ℕ) (size at n : ℕ) (handed : List ℕ)
+    → length (with_octets octets size at n handed) ≡ length handed
+length-with_octets octets size at zero handed = refl
+length-with_octets octets size at (suc n) handed =
+    length-with_octets octets size (suc at) n (with_octet octets size at handed)
+    ∙ length-with_octet octets size at handed
+
+pub length-with_frames : (octets : List ℕ) (size all n : ℕ) (handed : List ℕ)
+    → length (with_frames octets size all n handed) ≡ length handed
+length-with_frames octets size all zero handed = refl
+length-with_frames octets size all (suc n) handed =
+    length-with_octets (take all (drop (n * all) octets)) size 0 size
+    (with_frames octets size all n handed)
+    ∙ length-with_frames octets size all n handed
+
+octet-behind : (xs : List ℕ) (i k : ℕ) → ((k : ℕ) → get_or xs k 0 < 256)
+    → get_or (drop i xs) k 0 < 256
+octet-behind xs zero k octets = octets k
+octet-behind [] (suc i) k octets = octets k
+octet-behind (x ∷ xs) (suc i) k octets = octet-behind xs i k (λ k. octets (suc k))
+
+pub with_frames-below : (octets : List ℕ) (size all n m : ℕ) (handed : List ℕ)
+    → ((k : ℕ) → get_or octets k 0 < 256) → All (λ v. v < m) handed
+    → All (λ v. v < m * 256 ^ (n * size)) (with_frames octets size all n handed)
+with_frames-below octets size all zero m handed each small = λ k d inside.
+    let below = small k d inside in
+    let none : 0 * size ≡ 0 = omega arith in
+    let one : 256 ^ (0 * size) ≡ 1 = ap (λ (k : ℕ). 256 ^ k) none in
+    rw one (omega arith)
+with_frames-below octets size all (suc n) m handed each small = λ k d inside.
+    let chunk : List ℕ = take all (drop (n * all) octets) in
+    let below = with_octets-below chunk size 0 size (m * 256 ^ (n * size))
+    (with_frames octets size all n handed)
+    (λ k. octet-in (drop (n * all) octets) all k
+    (λ k. octet-behind octets (n * all) k each))
+    (with_frames-below octets size all n m handed each small) k d inside in
+    let next = suc-mul n size in
+    let power : m * 256 ^ (suc n * size) ≡ m * 256 ^ (n * size) * 256 ^ size =
+    ap (λ (k : ℕ). m * 256 ^ k) next ∙ ap (λ (p : ℕ). m * p) (pow-add 256 (n * size) size)
+    ∙ sym (mul_assoc m (256 ^ (n * size)) (256 ^ size)) in
+    omega arith
+
+-- one lane alone
+pub with_frames-one : (octets : List ℕ) (size n x : ℕ) → n * size ≤ length octets
+    → with_frames octets size size n (x ∷ []) ≡ fold behind x (take (n * size) octets) ∷ []
+with_frames-one octets size zero x inside =
+    let none : 0 ≡ 0 * size = omega arith in
+    ap (λ (k : ℕ). fold behind x (take k octets) ∷ []) none
+with_frames-one octets size (suc n) x inside =
+    let next = suc-mul n size in
+    let chunk : List ℕ = take size (drop (n * size) octets) in
+    let left = length-drop (n * size) octets in
+    let long : length chunk ≡ size =
+    length-take-le size (drop (n * size) octets) (omega arith) in
+    let before : ℕ = fold behind x (take (n * size) octets) in
+    let all : fold behind x (take (suc n * size) octets) ≡ fold behind before (take size chunk) =
+    ap (λ (k : ℕ). fold behind x (take k octets)) next
+    ∙ ap (fold behind x) (take-add (n * size) size octets)
+    ∙ fold-append behind x (take (n * size) octets) chunk
+    ∙ sym (ap (fold behind before) (take_all size chunk (omega arith))) in
+    ap (with_octets chunk size 0 size) (with_frames-one octets size n x (omega arith))
+    ∙ sym (with_octets-one chunk size 0 size (fold behind x (take (suc n * size) octets))
+    (before ∷ []) refl (omega arith) all)
+
+-- behind the frames of the first `from` octets
+pub frame-added : (octets : List ℕ) (size all from k : ℕ) (before handed next : List ℕ) → 0 < all
+    → from ≡ from / all * all → k ≡ all → handed ≡ with_frames octets size all (from / all) before
+    → next ≡ with_octets (take k (drop from octets)) size 0 size handed
+    → next ≡ with_frames octets size all ((from + all) / all) before
+frame-added octets size all from k before handed next some whole long was is =
+    let one : suc (from / all) ≡ from / all + 1 = omega arith in
+    is
+    ∙ ap₂ (λ (m i : ℕ). with_octets (take m (drop i octets)) size 0 size handed) long whole
+    ∙ ap (with_octets (take all (drop (from / all * all) octets)) size 0 size) was
+    ∙ ap (λ (m : ℕ). with_frames octets size all m before) (one ∙ sym (add-div_right from some))
+
+pub whole-added : (from all : ℕ) → 0 < all → from ≡ from / all * all
+    → from + all ≡ (from + all) / all * all
+whole-added from all some whole =
+    let one : from / all + 1 ≡ suc (from / all) = omega arith in
+    let next = suc-mul (from / all) all in
+    sym (ap (λ (k : ℕ). k * all) (add-div_right from some ∙ one) ∙ next
+    ∙ ap (λ (k : ℕ). k + all) (sym whole))
+
+-- another frame is within the octets
+pub frame-within : (i n size : ℕ) → i < n → i * size + size ≤ n * size
+frame-within i n size more =
+    let within : suc i * size ≤ n * size = mul-le-mul_right size more in
+    let next = suc-mul i size in
     omega arith

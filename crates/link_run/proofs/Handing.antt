@@ -13,9 +13,9 @@ use Rattle.scenario.specs.declared.scenario_type.Scenario.{Scenario}
 use Rattle.scenario.specs.Plans.{Plan, numbers_from, plan_of, source_frame}
 use Rattle.link_model.specs.Sends.{beginnings, begins_frame, handed_to, octet_of}
 use Rattle.link_model.proofs.NumberLists.{get_or-numbers, length-numbers, map-numbers, numbers-more}
-use Rattle.link_run.specs.kept.Handed.{Hands, begun_in, octets_to, with_octet, with_octets}
+use Rattle.link_run.specs.kept.Handed.{Hands, begun_in, octets_to, with_frames, with_octet, with_octets}
 use Rattle.link_run.specs.kept.Seen.{Fed, HasFed}
-use Rattle.link_run.proofs.FrameOctets.{length-with_octet}
+use Rattle.link_run.proofs.FrameOctets.{length-with_frames, length-with_octet, with_frames-below}
 
 filter-push : (f : ℕ → Bool) (xs : List ℕ) (x : ℕ)
     → length (filter f (xs ++ x ∷ [])) ≡ length (filter f xs) + (if f x then 1 else 0)
@@ -64,15 +64,16 @@ mod-of q f r below = mul-add-mod_self_right q f r ∙ mod-eq_of_lt below
 -- the next octet
 pub hands-more : (scenario : Scenario) (old now later : Fed) (x j at : ℕ) (handed next : List ℕ)
     → Hands scenario old now x j handed
-    → ((s : Plan) → plan_of scenario ≡ Some s → s.link.params ≡ old.params)
+    → ((s : Plan) → plan_of scenario ≡ Some s → s.link.params ≡ old.params) → old.frames ≡ 0
     → at ≡ (octets_per_tick old.params * x + j) % old.params.f
-    → later.params ≡ now.params → later.begun ≤ now.begun + 1
+    → later.params ≡ now.params → later.frames ≡ now.frames → later.begun ≤ now.begun + 1
     → length next ≡ length handed
     → next ≡ with_octet later.octets later.params.f at handed
     → ((s : Plan) (n : ℕ) → plan_of scenario ≡ Some s → HasFed now s n
     → HasFed later s (n + (if at == 0 then 1 else 0)))
     → Hands scenario old later x (j + 1) next
-hands-more scenario old now later x j at handed next h shape at_is same count long next_is fed =
+hands-more scenario old now later x j at handed next h shape part at_is same same_frames count long
+    next_is fed =
     let few = h.count in
     let wide = h.lanes in
     subst (λ k. Hands scenario old later x k next) (let one : suc j ≡ j + 1 = omega arith in one) (
@@ -92,6 +93,7 @@ hands-more scenario old now later x j at handed next h shape at_is same count lo
     subst (HasFed later s) sum now_fed in
     record {
       params = same ∙ h.params;
+      frames = same_frames ∙ h.frames;
       count = omega arith;
       lanes = long ∙ wide;
       fed = fed_now;
@@ -121,7 +123,8 @@ hands-more scenario old now later x j at handed next h shape at_is same count lo
           ap (λ (k : ℕ). slice_index later.octets (lane * k + at)) sizes
           ∙ ap (λ (k : ℕ). slice_index later.octets (lane * s.link.params.f + k)) at_now
           ∙ ap (λ (l : List ℕ). slice_index l
-          (lane * s.link.params.f + (octets_per_tick s.link.params * x + j) % s.link.params.f)) f.frame
+          (lane * s.link.params.f + (octets_per_tick s.link.params * x + j) % s.link.params.f))
+          (f.frame (same_frames ∙ h.frames ∙ part))
           ∙ octet-is s n x lane j in
           let turned : get_or handed lane 0 * 256 ≡ 256 * octets_to s n x j lane = omega arith in
           ap₂ (λ (a b : ℕ). a + b) turned octet ∙ sym (octets-more s n x j lane));
@@ -130,19 +133,19 @@ hands-more scenario old now later x j at handed next h shape at_is same count lo
 -- the octets that follow in a frame
 hands-on : (scenario : Scenario) (old now : Fed) (x j at n q : ℕ) (handed : List ℕ)
     → Hands scenario old now x j handed
-    → ((s : Plan) → plan_of scenario ≡ Some s → s.link.params ≡ old.params)
+    → ((s : Plan) → plan_of scenario ≡ Some s → s.link.params ≡ old.params) → old.frames ≡ 0
     → suc at + n ≤ old.params.f
     → octets_per_tick old.params * x + j ≡ q * old.params.f + suc at
     → Hands scenario old now x (j + n) (with_octets now.octets now.params.f (suc at) n handed)
-hands-on scenario old now x j at zero q handed h shape inside is =
+hands-on scenario old now x j at zero q handed h shape part inside is =
     let none : j ≡ j + 0 = omega arith in
     subst (λ k. Hands scenario old now x k handed) none h
-hands-on scenario old now x j at (suc n) q handed h shape inside is =
+hands-on scenario old now x j at (suc n) q handed h shape part inside is =
     let next : List ℕ = with_octet now.octets now.params.f (suc at) handed in
     let place : suc at ≡ (octets_per_tick old.params * x + j) % old.params.f =
     sym (ap (λ (k : ℕ). k % old.params.f) is ∙ mod-of q old.params.f (suc at) (omega arith)) in
     let one : Hands scenario old now x (j + 1) next =
-    hands-more scenario old now now x j (suc at) handed next h shape place refl (omega arith)
+    hands-more scenario old now now x j (suc at) handed next h shape part place refl refl (omega arith)
     (length-with_octet now.octets now.params.f (suc at) handed) refl
     (λ s k plan was. let none : k ≡ k + 0 = omega arith in
     subst (HasFed now s)
@@ -152,33 +155,34 @@ hands-on scenario old now x j at (suc n) q handed h shape inside is =
     let all : j + 1 + n ≡ j + suc n = omega arith in
     subst (λ k. Hands scenario old now x k
     (with_octets now.octets now.params.f (suc at) (suc n) handed)) all
-    (hands-on scenario old now x (j + 1) (suc at) n q next one shape (omega arith) (omega arith))
+    (hands-on scenario old now x (j + 1) (suc at) n q next one shape part (omega arith)
+    (omega arith))
 
 -- the next octets, all of one frame
 pub hands-run : (scenario : Scenario) (old now later : Fed) (x j at n : ℕ) (handed next : List ℕ)
     → Hands scenario old now x j handed
-    → ((s : Plan) → plan_of scenario ≡ Some s → s.link.params ≡ old.params)
+    → ((s : Plan) → plan_of scenario ≡ Some s → s.link.params ≡ old.params) → old.frames ≡ 0
     → at ≡ (octets_per_tick old.params * x + j) % old.params.f
     → 1 ≤ n → at + n ≤ old.params.f
-    → later.params ≡ now.params → later.begun ≤ now.begun + 1
+    → later.params ≡ now.params → later.frames ≡ now.frames → later.begun ≤ now.begun + 1
     → next ≡ with_octets later.octets later.params.f at n handed
     → ((s : Plan) (n : ℕ) → plan_of scenario ≡ Some s → HasFed now s n
     → HasFed later s (n + (if at == 0 then 1 else 0)))
     → Hands scenario old later x (j + n) next
-hands-run scenario old now later x j at zero handed next h shape place some in_frame same count is
-    fed =
+hands-run scenario old now later x j at zero handed next h shape part place some in_frame same
+    same_frames count is fed =
     absurd (omega arith)
-hands-run scenario old now later x j at (suc n) handed next h shape place some in_frame same count is
-    fed =
+hands-run scenario old now later x j at (suc n) handed next h shape part place some in_frame same
+    same_frames count is fed =
     let first : List ℕ = with_octet later.octets later.params.f at handed in
     let t : ℕ = octets_per_tick old.params * x + j in
     let whole : t / old.params.f * old.params.f + t % old.params.f ≡ t =
     div-add-mod' t old.params.f in
     let one : Hands scenario old later x (j + 1) first =
-    hands-more scenario old now later x j at handed first h shape place same count
+    hands-more scenario old now later x j at handed first h shape part place same same_frames count
     (length-with_octet later.octets later.params.f at handed) refl fed in
     let all : j + 1 + n ≡ j + suc n = omega arith in
-    let on = hands-on scenario old later x (j + 1) at n (t / old.params.f) first one shape
+    let on = hands-on scenario old later x (j + 1) at n (t / old.params.f) first one shape part
     (omega arith) (omega arith) in
     subst (λ (l : List ℕ). Hands scenario old later x (j + suc n) l) (sym is)
     (subst (λ k. Hands scenario old later x k
@@ -201,19 +205,6 @@ whole-place frames f o x k whole =
     let sum : (frames * x + k) * f ≡ o * x + k * f = add-mul (frames * x) k f
     ∙ ap (λ (n : ℕ). n + k * f) (sym turned) in
     sym (mul-mod_left (frames * x + k) f) ∙ ap (λ (n : ℕ). n % f) sum
-
--- another one of them is within the tick
-pub frame-within : (k frames f size o : ℕ) → k < frames → frames * f ≡ o → size ≡ f
-    → k * size + size ≤ o
-frame-within k frames f size o more whole is =
-    let within : suc k * f ≤ frames * f = mul-le-mul_right f more in
-    let next = suc-mul k f in
-    rw is (omega arith)
-
-pub next-frame : (k f : ℕ) → k * f + f ≡ (k + 1) * f
-next-frame k f =
-    let one : suc k ≡ k + 1 = omega arith in
-    sym (suc-mul k f) ∙ ap (λ (n : ℕ). n * f) one
 
 -- behind the last octet of a frame another one begins
 pub frame-ends : (t n f at : ℕ) → 0 < f → at ≡ t % f → at + n ≡ f → 0 ≡ (t + n) % f
@@ -245,6 +236,7 @@ pub hands-none : (scenario : Scenario) (old : Fed) (x n : ℕ)
 unfolding numbers_from
 hands-none scenario old x n shape is = record {
   params = refl;
+  frames = refl;
   count = omega arith;
   lanes = length-replicate n 0 ∙ is;
   fed = λ s k plan was. let none : k ≡ k + 0 = omega arith in subst (HasFed old s) none was;
@@ -303,4 +295,17 @@ pub small-more : (j n : ℕ) (handed : List ℕ) → All (λ v. v < 256 ^ j * 25
 small-more j n handed small k d inside =
     let below = small k d inside in
     let power = pow-add 256 j n in
+    omega arith
+
+-- the octets of n frames behind zeros
+pub small-frames : (octets : List ℕ) (size all n l : ℕ) (handed now : List ℕ)
+    → ((k : ℕ) → get_or octets k 0 < 256) → handed ≡ replicate l 0
+    → now ≡ with_frames octets size all n handed → All (λ v. v < 256 ^ (n * size)) now
+small-frames octets size all n l handed now each none is k d inside =
+    let below = with_frames-below octets size all n 1 (replicate l 0) each (small-none l) in
+    let now_is : now ≡ with_frames octets size all n (replicate l 0) =
+    is ∙ ap (with_frames octets size all n) none in
+    let small : All (λ v. v < 1 * 256 ^ (n * size)) now =
+    subst (λ (x : List ℕ). All (λ v. v < 1 * 256 ^ (n * size)) x) (sym now_is) below in
+    let one = small k d inside in
     omega arith

@@ -17,8 +17,8 @@ use scenario::{Scenario, source_frame, source_frames};
 use std::alloc::Global;
 use std::marker::Model;
 
-/// The source frame that began last. Contracts see it as its parameters, how many frames began, and
-/// that frame's words and octets.
+/// The source frame that began last, or all those of a tick. Contracts see it as its parameters,
+/// how many frames began, how many a tick has where each has whole ones, and the octets.
 #[derive(Drop)]
 pub struct Feed {
     layout: Layout,
@@ -42,9 +42,8 @@ impl Model for Feed {
     ghost view = { λ f. record {
       params = f.layout;
       begun = f.begun;
-      words = f.words.items;
-      octets =
-          f.octets.items;
+      frames = f.frames;
+      octets = f.octets.items;
     } };
 
     ghost invariant = { λ f. HasFeedSizes f.layout f.size f.per_tick f.frames f.words.items f.octets.items };
@@ -112,7 +111,7 @@ impl Feed {
     fn hand_frames(&mut self, s: &Scenario, handed: &mut [u64])
         requires shape { s.now.shape ≡ self.old.params }
         requires none { handed.old ≡ replicate self.old.params.l 0 }
-        requires whole { frames * self.old.params.f ≡ octets_per_tick self.old.params }
+        requires some { 0 < self.old.frames }
         requires count { self.old.begun + 8 ≤ 4294967295 }
         ensures handed { (place : ℕ) → Hands s.now self.old self.new place
             (octets_per_tick self.old.params) handed.new }
@@ -121,6 +120,9 @@ impl Feed {
         if s.link.is_none() {
             return;
         }
+        // for what they ensure: some words have one frame, and the shape obeys its laws
+        layout_laws();
+        let _params = s.shape.params();
         source_frames(s, u64::from(self.begun), &mut self.words);
         self.layout.map_frames(&self.words, &mut self.octets);
         self.begun += self.frames;
@@ -133,6 +135,7 @@ impl Feed {
     // The octets of a tick at this place, those of a frame at a time.
     fn hand_rows(&mut self, s: &Scenario, place: u32, handed: &mut [u64])
         requires shape { s.now.shape ≡ self.old.params }
+        requires part { self.old.frames ≡ 0 }
         requires none { handed.old ≡ replicate self.old.params.l 0 }
         requires place { place < 1024 }
         requires count { self.old.begun + 8 ≤ 4294967295 }
@@ -156,6 +159,7 @@ impl Feed {
     #[inline(always)]
     fn hand_octets(&mut self, s: &Scenario, at: u32, count: u32, handed: &mut [u64])
         requires shape { s.now.shape ≡ self.old.params }
+        requires part { self.old.frames ≡ 0 }
         requires lanes { length handed.old ≡ self.old.params.l }
         requires at { at + count ≤ self.old.params.f }
         requires few { count ≤ 8 }
@@ -168,6 +172,7 @@ impl Feed {
         ensures fed { (plan : Plan) (n : ℕ) → plan_of s.now ≡ Some plan → HasFed self.old plan n
             → HasFed self.new plan (n + (if at == 0 then 1 else 0)) }
         ensures same { self.new.params ≡ self.old.params }
+        ensures frames { self.new.frames ≡ self.old.frames }
         ensures count { self.new.begun ≤ self.old.begun + 1 }
     {
         if at == 0 {
@@ -182,7 +187,9 @@ impl Feed {
     fn begin(&mut self, s: &Scenario)
         requires count { self.old.begun < 4294967295 }
         requires shape { s.now.shape ≡ self.old.params }
+        requires part { self.old.frames ≡ 0 }
         ensures same { self.new.params ≡ self.old.params }
+        ensures frames { self.new.frames ≡ self.old.frames }
         ensures count { self.new.begun ≡ self.old.begun + 1 }
         ensures fed { (plan : Plan) (n : ℕ) → plan_of s.now ≡ Some plan → HasFed self.old plan n
             → HasFed self.new plan (n + 1) }
@@ -195,11 +202,11 @@ impl Feed {
     // nothing is written.
     #[inline(always)]
     fn lay_out(&mut self, s: &Scenario, number: u32)
-        requires { s.now.shape ≡ self.old.params }
+        requires shape { s.now.shape ≡ self.old.params }
+        requires part { self.old.frames ≡ 0 }
         ensures same { self.new.params ≡ self.old.params }
+        ensures frames { self.new.frames ≡ self.old.frames }
         ensures count { self.new.begun ≡ self.old.begun }
-        ensures words { (plan : Plan) → plan_of s.now ≡ Some plan
-            → self.new.words ≡ source_frame plan number }
         ensures octets { (plan : Plan) → plan_of s.now ≡ Some plan
             → self.new.octets ≡ frame_of plan.link.params (source_frame plan number) }
     {

@@ -1,6 +1,6 @@
 //! The octets of a frame, lane by lane.
 ghost use Rattle.std.specs.Prelude.{◌≡◌, ◌<◌, ◌≤◌, ◌+◌, ◌-◌, ◌*◌, ◌^◌, ℕ, All, fold, length, replicate};
-ghost use Rattle.link_run.specs.kept.Handed.{with_octets};
+ghost use Rattle.link_run.specs.kept.Handed.{with_frames, with_octets};
 
 /// Sets the number of each lane to 0.
 pub(crate) fn clear(handed: &mut [u64])
@@ -30,10 +30,20 @@ pub(crate) fn add_octets(octets: &[u8], size: usize, at: usize, count: usize, ha
     }
 }
 
-/// Puts all octets of each lane behind the number of the lane: those of some frames, one after the
-/// other, each with `size` octets on a lane.
-pub(crate) fn add_frames(octets: &[u8], size: usize, handed: &mut [u64]) {
-    let all = size * handed.len();
+/// Puts all octets of each lane behind the number of the lane, which is 0: those of some frames, one
+/// after the other, each with `size` octets on a lane.
+pub(crate) fn add_frames(octets: &[u8], size: usize, handed: &mut [u64])
+    ghost n: { ℕ }
+    requires some { 0 < n }
+    requires all { 0 < length handed.old * size }
+    requires octets { length octets.now ≡ n * (length handed.old * size) }
+    requires few { n * size ≤ 8 }
+    requires none { handed.old ≡ replicate (length handed.old) 0 }
+    ensures handed { handed.new
+        ≡ with_frames octets.now size (length handed.old * size) n handed.old }
+    ensures small { All (λ v. v < 256 ^ (n * size)) handed.new }
+{
+    let all = handed.len() * size;
     let mut from = 0;
     while from < octets.len() {
         add_octets(&octets[from..from + all], size, 0, size, handed);

@@ -1,6 +1,6 @@
 -- What lanes were handed of a tick so far.
 -- Code: a number for each lane, with the octets of one frame behind it at a time.
-use Rattle.std.specs.Prelude.{◌≡◌, ◌≤◌, ℕ, zero, suc, ◌+◌, ◌*◌, List, map, filter, fold, length, get_or, slice_index, Some}
+use Rattle.std.specs.Prelude.{◌≡◌, ◌≤◌, ℕ, zero, suc, ◌+◌, ◌*◌, List, map, filter, fold, length, get_or, slice_index, take, drop, Some}
 use Rattle.link_params.specs.declared.fields.Params.{Params}
 use Rattle.scenario.specs.declared.scenario_type.Scenario.{Scenario}
 use Rattle.scenario.specs.Plans.{Plan, numbers_from, plan_of}
@@ -19,6 +19,14 @@ with_octets octets size at zero handed = handed
 with_octets octets size at (suc n) handed =
     with_octets octets size (suc at) n (with_octet octets size at handed)
 
+-- with all octets of n frames behind each, one frame after the other; a frame has `size` octets on
+-- a lane and `all` octets
+abbrev pub with_frames : List ℕ → ℕ → ℕ → ℕ → List ℕ → List ℕ
+with_frames octets size all zero handed = handed
+with_frames octets size all (suc n) handed =
+    with_octets (take all (drop (n * all) octets)) size 0 size
+    (with_frames octets size all n handed)
+
 -- how many frames begin with the first j octets of a tick at this place
 abbrev pub begun_in : Params → ℕ → ℕ → ℕ
 begun_in p x j = length (filter (begins_frame p x) (numbers_from 0 j))
@@ -31,6 +39,7 @@ octets_to s n x j lane = fold (λ v i. 256 * v + octet_of s n x lane i) 0 (numbe
 -- numbers are those of their lanes
 pub record Hands (scenario : Scenario) (old now : Fed) (x j : ℕ) (handed : List ℕ) : Type 0 where
   pub params : now.params ≡ old.params
+  pub frames : now.frames ≡ old.frames
   pub count : now.begun ≤ old.begun + j
   pub lanes : length handed ≡ old.params.l
   pub fed : (s : Plan) (n : ℕ) → plan_of scenario ≡ Some s → HasFed old s n

@@ -42,3 +42,6 @@ returns-in-None-clause-handed c = λ plan n is was.
     rw (c.in-None.is, c.clear.ensures)
     (handed-none plan n _ (c.requires.lanes
     ∙ sym (ap (λ (p : Params). p.l) (same_params c.args.s.now plan is ∙ c.requires.shape))))
+
+pub hand_rows-requires-clause-part : goal.hand_rows-requires-clause-part
+hand_rows-requires-clause-part c = ?

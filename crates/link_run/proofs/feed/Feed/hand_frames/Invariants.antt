@@ -1,9 +1,11 @@
-use Rattle.std.proofs.Common.{◌<◌, ◌*◌, ◌^◌, ℕ, All}
-use Rattle.link_run.specs.kept.Handed.{Hands}
+use Rattle.std.proofs.Common.{◌*◌, ◌/◌, length}
 use Rattle.link_run.proofs.feed.Feed.hand_frames.Given as goal
 
-abbrev pub invariant-loop-frame : goal.invariant-loop-frame
-invariant-loop-frame l = record {
-  hands : (x : ℕ) → Hands l.s l.fn.self l.self x (l._frame * l.size) l.handed;
-  small : All (λ v. v < 256 ^ (l._frame * l.size)) l.handed;
-}
+abbrev pub ghost-source_frames : goal.ghost-source_frames
+ghost-source_frames a = length a.words.now / (a.s.now.shape.m * a.s.now.shape.s)
+
+abbrev pub ghost-map_frames : goal.ghost-map_frames
+ghost-map_frames a = length a.words.now / (a.self.now.m * a.self.now.s)
+
+abbrev pub ghost-add_frames : goal.ghost-add_frames
+ghost-add_frames a = length a.octets.now / (length a.handed.now * a.size)

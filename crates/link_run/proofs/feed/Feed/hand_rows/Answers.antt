@@ -24,6 +24,9 @@ loop-done-init c =
           c.self.invariant.per_tick_is (ap (λ (f : Fed). f.params) c.self.view_is);
     }
 
+pub hand_octets-requires-clause-part : goal.hand_octets-requires-clause-part
+hand_octets-requires-clause-part c = c.loop-done.invariant.hands.frames ∙ c.requires.part
+
 pub hand_octets-requires-clause-small : goal.hand_octets-requires-clause-small
 hand_octets-requires-clause-small c =
     let on = c.loop-done-test.true in
@@ -48,8 +51,8 @@ loop-done-preserved c =
       hands = hands-run c.args.s.now c.args.self.now c.loop-done.self c.hand_octets.new.self
           c.args.place c.loop-done.done c.loop-done.at c.min-count.result c.loop-done.handed
           c.hand_octets.new.handed i.hands
-          (λ plan is. same_params c.args.s.now plan is ∙ c.requires.shape) (i.place on)
-          (omega arith) (omega arith) e.same e.count e.handed
+          (λ plan is. same_params c.args.s.now plan is ∙ c.requires.shape) c.requires.part
+          (i.place on) (omega arith) (omega arith) e.same e.frames e.count e.handed
           (λ plan n is was. e.fed plan n is was);
       small = small-more c.loop-done.done c.min-count.result c.hand_octets.new.handed
           (e.small (256 ^ c.loop-done.done) i.small);
