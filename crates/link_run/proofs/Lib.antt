@@ -5,6 +5,7 @@ pub mod SyncLemmas
 pub mod FeedLemmas
 pub mod FrameOctets
 pub mod Handing
+pub mod WholeFrames
 pub mod PlanFacts
 pub mod LinkFacts
 pub mod FlipLemmas

@@ -8,7 +8,7 @@ ghost use Rattle.link_model.specs.Sends.{beginnings, handed_to};
 ghost use Rattle.link_run.specs.kept.Handed.{Hands, with_octets};
 ghost use Rattle.link_run.specs.kept.Seen.{HasFed};
 
-use crate::frame_octets::{add_frames, add_octets, clear, joined};
+use crate::frame_octets::{add_frames, add_octets, clear, number_of};
 use crate::whole_frames::whole_frames;
 use jesd_base::NoMemory;
 use link_params::place_in_frame;
@@ -127,7 +127,7 @@ impl Feed {
         self.layout.map_frames(&self.words, &mut self.octets);
         self.begun += self.frames;
         match handed {
-            [only] => *only = joined(0, &self.octets),
+            [only] => *only = number_of(&self.octets),
             _ => add_frames(&self.octets, self.size as usize, handed),
         }
     }

@@ -67,8 +67,18 @@ fn add_each(octets: &[u8], size: usize, at: usize, count: usize, handed: &mut [u
     }
 }
 
+/// These octets as one number, the first one most significant.
+#[inline(always)]
+pub(crate) fn number_of(octets: &[u8]) -> u64
+    requires few { length octets.now ≤ 8 }
+    ensures value { result ≡ fold (λ v octet. v * 256 + octet) 0 octets.now }
+    ensures small { result < 256 ^ length octets.now }
+{
+    joined(0, octets)
+}
+
 // A number with these octets behind it.
-pub(crate) fn joined(number: u64, octets: &[u8]) -> u64
+fn joined(number: u64, octets: &[u8]) -> u64
     requires few { length octets.now ≤ 8 }
     requires small { number < 256 ^ (8 - length octets.now) }
     ensures { result ≡ fold (λ v octet. v * 256 + octet) number octets.now }

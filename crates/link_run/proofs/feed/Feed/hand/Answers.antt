@@ -44,4 +44,7 @@ returns-in-None-clause-handed c = λ plan n is was.
     ∙ sym (ap (λ (p : Params). p.l) (same_params c.args.s.now plan is ∙ c.requires.shape))))
 
 pub hand_rows-requires-clause-part : goal.hand_rows-requires-clause-part
-hand_rows-requires-clause-part c = ?
+hand_rows-requires-clause-part c =
+    let none = c.if-self-gt0.false in
+    let same = ap (λ (f : Fed). f.frames) c.self.view_is in
+    omega arith
