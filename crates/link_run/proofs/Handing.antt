@@ -145,7 +145,8 @@ hands-on scenario old now x j at (suc n) q handed h shape part inside is =
     let place : suc at ≡ (octets_per_tick old.params * x + j) % old.params.f =
     sym (ap (λ (k : ℕ). k % old.params.f) is ∙ mod-of q old.params.f (suc at) (omega arith)) in
     let one : Hands scenario old now x (j + 1) next =
-    hands-more scenario old now now x j (suc at) handed next h shape part place refl refl (omega arith)
+    hands-more scenario old now now x j (suc at) handed next h shape part place refl refl
+    (omega arith)
     (length-with_octet now.octets now.params.f (suc at) handed) refl
     (λ s k plan was. let none : k ≡ k + 0 = omega arith in
     subst (HasFed now s)

@@ -46,7 +46,8 @@ impl Model for Feed {
       octets = f.octets.items;
     } };
 
-    ghost invariant = { λ f. HasFeedSizes f.layout f.size f.per_tick f.frames f.words.items f.octets.items };
+    ghost invariant = { λ f. HasFeedSizes f.layout f.size f.per_tick f.frames f.words.items
+        f.octets.items };
 }
 
 impl Feed {
