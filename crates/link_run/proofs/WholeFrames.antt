@@ -1,5 +1,5 @@
 -- The frames of a tick that has whole ones, all at once.
-use Rattle.std.proofs.Common.{◌≡◌, ℕ, zero, suc, ◌+◌, ◌-◌, ◌*◌, ◌/◌, ◌%◌, ◌^◌, ◌==◌, ◌<◌, ◌≤◌, if◌then◌else◌, List, [], ◌∷◌, All, take, drop, fold, replicate, length, get_or, slice_index, slice_set, Some, None, refl, sym, ap, ap₂, subst, ◌∙◌, arith}
+use Rattle.std.proofs.Common.{◌≡◌, ℕ, zero, suc, ◌+◌, ◌-◌, ◌*◌, ◌/◌, ◌%◌, ◌^◌, ◌<◌, ◌≤◌, List, [], ◌∷◌, All, take, drop, fold, replicate, length, get_or, slice_index, slice_set, Some, None, refl, sym, ap, ap₂, subst, ◌∙◌, arith}
 use Rattle.std.proofs.Math.Nat.{mod-lt, mul-le-mul_left, mul-le-mul_right, suc-mul}
 use Rattle.std.proofs.lemmas.List.{get_or-drop, get_or-take, length-drop, length-replicate, length-take-le, take_all}
 use Rattle.std.proofs.lemmas.Nat.{div-add-mod', div_below, div-mul-add}
@@ -15,7 +15,7 @@ use Rattle.link_run.specs.kept.Handed.{Hands, with_frames}
 use Rattle.link_run.specs.kept.Seen.{Fed, HasFed}
 use Rattle.link_run.proofs.FeedLemmas.{fits, frame_is}
 use Rattle.link_run.proofs.FrameOctets.{behind, frame-within, length-with_frames, with_frames-one}
-use Rattle.link_run.proofs.Handing.{hands-none, hands-run, small-frames, whole-place}
+use Rattle.link_run.proofs.Handing.{hands-none, hands-run, whole-place}
 
 -- ---- how many
 
