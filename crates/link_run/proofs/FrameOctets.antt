@@ -184,7 +184,7 @@ with_octets-below octets size at (suc n) m handed each small = λ k d inside.
 
 -- ---- frame by frame
 
-pub length-with_octets : (octets : List ℕ) (size at n : ℕ) (handed : List ℕ)
+length-with_octets : (octets : List ℕ) (size at n : ℕ) (handed : List ℕ)
     → length (with_octets octets size at n handed) ≡ length handed
 length-with_octets octets size at zero handed = refl
 length-with_octets octets size at (suc n) handed =

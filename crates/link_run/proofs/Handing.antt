@@ -1,6 +1,6 @@
 -- What lanes are handed in a tick, octet by octet and frame by frame.
 use Rattle.std.proofs.Common.{◌≡◌, ℕ, zero, suc, ◌+◌, ◌-◌, ◌*◌, ◌/◌, ◌%◌, ◌^◌, ◌==◌, ◌<◌, ◌≤◌, Bool, if◌then◌else◌, List, [], ◌∷◌, ◌++◌, All, map, fold, filter, replicate, length, get_or, slice_index, Some, None, inl, inr, refl, sym, ap, ap₂, subst, ◌∙◌, arith}
-use Rattle.std.proofs.Math.Nat.{add-mul, mod-eq_of_lt, mul_assoc, mul_comm, mul-add-mod_self_right, mul-le-mul_right, mul-mod_left, pow-le-pow_right, suc-mul}
+use Rattle.std.proofs.Math.Nat.{add-mul, mod-eq_of_lt, mul_assoc, mul_comm, mul-add-mod_self_right, mul-mod_left, pow-le-pow_right, suc-mul}
 use Rattle.std.proofs.lemmas.Bool.{cases_Bool, ne_eqb}
 use Rattle.std.proofs.lemmas.List.{get_or-map, get_or-replicate, length-replicate}
 use Rattle.std.proofs.lemmas.List.Elements.{All-from_get_or}
@@ -15,7 +15,7 @@ use Rattle.link_model.specs.Sends.{beginnings, begins_frame, handed_to, octet_of
 use Rattle.link_model.proofs.NumberLists.{get_or-numbers, length-numbers, map-numbers, numbers-more}
 use Rattle.link_run.specs.kept.Handed.{Hands, begun_in, octets_to, with_frames, with_octet, with_octets}
 use Rattle.link_run.specs.kept.Seen.{Fed, HasFed}
-use Rattle.link_run.proofs.FrameOctets.{length-with_frames, length-with_octet, with_frames-below}
+use Rattle.link_run.proofs.FrameOctets.{length-with_octet, with_frames-below}
 
 filter-push : (f : ℕ → Bool) (xs : List ℕ) (x : ℕ)
     → length (filter f (xs ++ x ∷ [])) ≡ length (filter f xs) + (if f x then 1 else 0)
@@ -145,7 +145,8 @@ hands-on scenario old now x j at (suc n) q handed h shape part inside is =
     let place : suc at ≡ (octets_per_tick old.params * x + j) % old.params.f =
     sym (ap (λ (k : ℕ). k % old.params.f) is ∙ mod-of q old.params.f (suc at) (omega arith)) in
     let one : Hands scenario old now x (j + 1) next =
-    hands-more scenario old now now x j (suc at) handed next h shape part place refl refl (omega arith)
+    hands-more scenario old now now x j (suc at) handed next h shape part place refl refl
+    (omega arith)
     (length-with_octet now.octets now.params.f (suc at) handed) refl
     (λ s k plan was. let none : k ≡ k + 0 = omega arith in
     subst (HasFed now s)

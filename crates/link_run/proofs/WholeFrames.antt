@@ -1,5 +1,5 @@
 -- The frames of a tick that has whole ones, all at once.
-use Rattle.std.proofs.Common.{◌≡◌, ℕ, zero, suc, ◌+◌, ◌-◌, ◌*◌, ◌/◌, ◌%◌, ◌^◌, ◌==◌, ◌<◌, ◌≤◌, if◌then◌else◌, List, [], ◌∷◌, All, take, drop, fold, replicate, length, get_or, slice_index, slice_set, Some, None, refl, sym, ap, ap₂, subst, ◌∙◌, arith}
+use Rattle.std.proofs.Common.{◌≡◌, ℕ, zero, suc, ◌+◌, ◌-◌, ◌*◌, ◌/◌, ◌%◌, ◌^◌, ◌<◌, ◌≤◌, List, [], ◌∷◌, All, take, drop, fold, replicate, length, get_or, slice_index, slice_set, Some, None, refl, sym, ap, ap₂, subst, ◌∙◌, arith}
 use Rattle.std.proofs.Math.Nat.{mod-lt, mul-le-mul_left, mul-le-mul_right, suc-mul}
 use Rattle.std.proofs.lemmas.List.{get_or-drop, get_or-take, length-drop, length-replicate, length-take-le, take_all}
 use Rattle.std.proofs.lemmas.Nat.{div-add-mod', div_below, div-mul-add}
@@ -15,7 +15,7 @@ use Rattle.link_run.specs.kept.Handed.{Hands, with_frames}
 use Rattle.link_run.specs.kept.Seen.{Fed, HasFed}
 use Rattle.link_run.proofs.FeedLemmas.{fits, frame_is}
 use Rattle.link_run.proofs.FrameOctets.{behind, frame-within, length-with_frames, with_frames-one}
-use Rattle.link_run.proofs.Handing.{hands-none, hands-run, small-frames, whole-place}
+use Rattle.link_run.proofs.Handing.{hands-none, hands-run, whole-place}
 
 -- ---- how many
 
@@ -46,6 +46,9 @@ pub few-frames : (frames size tick : ℕ) → 1 ≤ size → frames * size ≡ t
 few-frames frames size tick some is =
     let least : frames * 1 ≤ frames * size = mul-le-mul_left frames some in
     omega arith
+
+pub some-frames : (f g : Fed) → f ≡ g → 0 < g.frames → 0 < f.frames
+some-frames f g same some = subst (λ (h : Fed). 0 < h.frames) (sym same) some
 
 -- ---- each frame of them
 
@@ -94,7 +97,7 @@ words-below s plan p frames begun words is same some long each r inside =
     (fits s plan p (begun + r / size) (r % size) (part words size (r / size)) is same
     (each plan is (r / size) (div_below r size frames some below)))
 
-pub octets-of : (s : Scenario) (p : Params) (frames begun : ℕ) (words octets : List ℕ) → OneFrame
+octets-of : (s : Scenario) (p : Params) (frames begun : ℕ) (words octets : List ℕ) → OneFrame
     → broken_law s.shape ≡ None → s.shape ≡ p → length words ≡ frames * (p.m * p.s)
     → AreFrames s frames begun (p.m * p.s) words
     → ((i : ℕ) → i < frames → IsFrame p (part words (p.m * p.s) i) (part octets (p.l * p.f) i))
@@ -125,18 +128,18 @@ tick-frames s p frames begun from old_words words new octets one legal same long
     let some = some-words p (ap broken_law (sym same) ∙ legal) in
     let laid_count = count-is (length words) frames (p.m * p.s) some now in
     octets-of s p frames begun words octets one legal same now
-    (are-frames s p frames begun (length old_words / (q.m * q.s)) from words new same count starts is
-    each)
+    (are-frames s p frames begun (length old_words / (q.m * q.s)) from words new same count starts
+    is each)
     (λ i more. laid i (subst (λ (k : ℕ). i < k) (sym laid_count) more))
 
 -- ---- what the lanes are handed
 
 -- a feed that has one frame at a time
-abbrev pub at_frame : Params → ℕ → List ℕ → Fed
+abbrev at_frame : Params → ℕ → List ℕ → Fed
 at_frame p n octets = record { params = p; begun = n; frames = 0; octets = octets }
 
 -- the octets of the frame that began last, k frames of the tick after the first octets
-abbrev pub last : List ℕ → List ℕ → ℕ → ℕ → List ℕ
+abbrev last : List ℕ → List ℕ → ℕ → ℕ → List ℕ
 last first octets all zero = first
 last first octets all (suc k) = part octets all k
 
@@ -186,7 +189,8 @@ pub whole-hands : (scenario : Scenario) (old now : Fed) (x : ℕ) (octets handed
     → ((s : Plan) → plan_of scenario ≡ Some s → s.link.params ≡ old.params) → 1 ≤ old.params.f
     → 0 < old.frames → old.frames * old.params.f ≡ octets_per_tick old.params
     → now.params ≡ old.params → now.frames ≡ old.frames → now.begun ≡ old.begun + old.frames
-    → HasFrames scenario old octets → handed ≡ with_frames octets old.params.f (old.params.l * old.params.f) old.frames
+    → HasFrames scenario old octets
+    → handed ≡ with_frames octets old.params.f (old.params.l * old.params.f) old.frames
     (replicate old.params.l 0)
     → Hands scenario old now x (octets_per_tick old.params) handed
 whole-hands scenario old now x octets handed shape some more whole same same_frames begun each is =
@@ -216,10 +220,10 @@ whole-hands scenario old now x octets handed shape some more whole same same_fra
           ∙ length-with_frames octets p.f (p.l * p.f) old.frames (replicate p.l 0)
           ∙ length-replicate p.l 0;
       fed = λ s k plan was. record {
-          same_params = same ∙ was.same_params;
-          count = begun ∙ ((run s).fed s k plan (one s k was)).count;
-          frame = λ none. absurd (omega arith);
-        };
+        same_params = same ∙ was.same_params;
+        count = begun ∙ ((run s).fed s k plan (one s k was)).count;
+        frame = λ none. absurd (omega arith);
+      };
       handed_is = λ s k plan was. is ∙ (run s).handed_is s k plan (one s k was);
     }
 

@@ -1,5 +1,5 @@
 //! The octets of source frames, on their way into the lanes.
-ghost use Rattle.std.specs.Prelude.{◌≡◌, ◌<◌, ◌≤◌, ◌+◌, ◌-◌, ◌*◌, ◌^◌, ◌==◌, true, ℕ, List, Some, All, IfOk, IfSome, if◌then◌else◌, length, map, replicate};
+ghost use Rattle.std.specs.Prelude.{◌≡◌, ◌<◌, ◌≤◌, ◌+◌, ◌-◌, ◌*◌, ◌^◌, ◌==◌, true, ℕ, Some, All, IfOk, IfSome, if◌then◌else◌, length, map, replicate};
 ghost use Rattle.link_params.specs.Laws.{is_b};
 ghost use Rattle.link_params.specs.Numbers.{octets_per_tick};
 ghost use Rattle.sample_map.specs.Frames.{frame_of};
@@ -46,7 +46,8 @@ impl Model for Feed {
       octets = f.octets.items;
     } };
 
-    ghost invariant = { λ f. HasFeedSizes f.layout f.size f.per_tick f.frames f.words.items f.octets.items };
+    ghost invariant = { λ f. HasFeedSizes f.layout f.size f.per_tick f.frames f.words.items
+        f.octets.items };
 }
 
 impl Feed {

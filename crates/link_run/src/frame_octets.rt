@@ -30,8 +30,8 @@ pub(crate) fn add_octets(octets: &[u8], size: usize, at: usize, count: usize, ha
     }
 }
 
-/// Puts all octets of each lane behind the number of the lane, which is 0: those of some frames, one
-/// after the other, each with `size` octets on a lane.
+/// Puts all octets of each lane behind the number of the lane, which is 0: those of some frames,
+/// one after the other, each with `size` octets on a lane.
 pub(crate) fn add_frames(octets: &[u8], size: usize, handed: &mut [u64])
     ghost n: { ℕ }
     requires some { 0 < n }

@@ -1,4 +1,4 @@
-use Rattle.std.proofs.Common.{◌<◌, ◌≤◌, ◌*◌, ◌^◌, ◌-◌, length, arith}
+use Rattle.std.proofs.Common.{◌<◌, ◌≤◌, ◌^◌, ◌-◌, length, arith}
 use Rattle.std.proofs.Math.Nat.{pow-le-pow_right}
 use Rattle.link_run.proofs.FrameOctets.{fold-below}
 use Rattle.link_run.proofs.frame_octets.number_of.Goals as goal

@@ -1,14 +1,12 @@
-use Rattle.std.proofs.Common.{◌≡◌, ◌<◌, ◌≤◌, ◌+◌, ◌*◌, ◌/◌, ◌^◌, ℕ, List, Some, None, All, fold, length, not, refl, replicate, sym, subst, ap, ap₂, ◌∙◌, arith}
+use Rattle.std.proofs.Common.{◌≡◌, ◌<◌, ◌≤◌, ◌+◌, ◌*◌, ◌/◌, ◌^◌, ℕ, None, All, fold, length, not, replicate, sym, subst, ap, ap₂, ◌∙◌, arith}
 use Rattle.std.proofs.lemmas.List.{length-replicate}
 use Rattle.link_params.specs.declared.fields.Params.{Params}
 use Rattle.link_params.specs.Laws.{broken_law}
 use Rattle.link_params.specs.Numbers.{octets_per_tick}
-use Rattle.link_params.proofs.LawFacts.{legal_sizes}
-use Rattle.scenario.specs.Plans.{Plan, plan_of, source_frame}
 use Rattle.scenario.proofs.SourceLemmas.{plan-kept}
 use Rattle.link_run.specs.kept.Seen.{Fed}
 use Rattle.link_run.proofs.FeedLemmas.{left_in, left_length, same_params, some_plan, still-sizes}
-use Rattle.link_run.proofs.WholeFrames.{HasFrames, are-frames, count-is, counted, few-frames, one-lane, one-tick, several-lanes, small-set, some-octets, some-words, tick-frames, whole-hands, words-below}
+use Rattle.link_run.proofs.WholeFrames.{HasFrames, are-frames, count-is, counted, few-frames, one-lane, one-tick, several-lanes, small-set, some-frames, some-octets, some-words, tick-frames, whole-hands, words-below}
 use Rattle.link_run.proofs.FrameOctets.{behind}
 use Rattle.link_run.proofs.feed.Feed.hand_frames.Goals as goal
 
@@ -18,7 +16,7 @@ source_frames-requires c =
     let p = c.args.s.now.shape in
     let inv = c.self.invariant in
     let plan = some_plan c.args.s.now (c.is_none.ensures ∙ ap not c.if-is_none.false) in
-    let some : 0 < i.frames = subst (λ (f : Fed). 0 < f.frames) (sym c.self.view_is) c.requires.some in
+    let some = some-frames _ _ c.self.view_is c.requires.some in
     let begun : i.begun ≡ c.args.self.now.begun = ap (λ (f : Fed). f.begun) c.self.view_is in
     let long : length c.deref_mut.result.now ≡ i.frames * (p.m * p.s) =
     ap length c.deref_mut.ensures.value ∙ inv.words_are.of_all some
@@ -29,9 +27,10 @@ source_frames-requires c =
     let most = inv.few in
     let count = count-is (length c.deref_mut.result.now) i.frames (p.m * p.s) each long in
     let from = c.from.ensures in
-    let room = c.requires.count in
-    (counted (length c.deref_mut.result.now) i.frames (p.m * p.s) each long,
-    ((plan-kept c.args.s.now plan.0 plan.1).words, omega arith))
+    let room = c.requires.count in (
+      counted (length c.deref_mut.result.now) i.frames (p.m * p.s) each long,
+      ((plan-kept c.args.s.now plan.0 plan.1).words, omega arith),
+    )
 
 pub map_frames-requires : goal.map_frames-requires
 map_frames-requires c =
@@ -40,7 +39,7 @@ map_frames-requires c =
     let q = c.args.s.now.shape in
     let inv = c.self.invariant in
     let plan = some_plan c.args.s.now (c.is_none.ensures ∙ ap not c.if-is_none.false) in
-    let some : 0 < i.frames = subst (λ (f : Fed). 0 < f.frames) (sym c.self.view_is) c.requires.some in
+    let some = some-frames _ _ c.self.view_is c.requires.some in
     let shape : q ≡ p = c.requires.shape ∙ sym (ap (λ (f : Fed). f.params) c.self.view_is) in
     let legal : broken_law p ≡ None = ap broken_law (sym shape) ∙ c.params-params.ensures.legal in
     let left = left_in i.words.len c.source_frames.new.words i.words.items
@@ -56,17 +55,21 @@ map_frames-requires c =
     c.source_frames.new.words shape count c.from.ensures (c.deref.ensures.value ∙ left)
     c.source_frames.ensures.plan in
     let each = some-words p legal in
-    let now = count-is (length c.deref.result.now) i.frames (p.m * p.s) each long in
-    (counted (length c.deref.result.now) i.frames (p.m * p.s) each long,
-    (words-below c.args.s.now plan.0 p i.frames i.begun c.deref.result.now plan.1 shape each long
-    frames, ap length c.deref_mut-2.ensures.value ∙ inv.octets_are.of_all some
-    ∙ sym (ap (λ (k : ℕ). k * (p.l * p.f)) now)))
+    let now = count-is (length c.deref.result.now) i.frames (p.m * p.s) each long in (
+      counted (length c.deref.result.now) i.frames (p.m * p.s) each long,
+      (
+        words-below c.args.s.now plan.0 p i.frames i.begun c.deref.result.now plan.1 shape each long
+            frames,
+        ap length c.deref_mut-2.ensures.value ∙ inv.octets_are.of_all some
+            ∙ sym (ap (λ (k : ℕ). k * (p.l * p.f)) now),
+      ),
+    )
 
 pub overflow_add-self : goal.overflow_add-self
 overflow_add-self c =
     let i = c.self.inside in
     let inv = c.self.invariant in
-    let some : 0 < i.frames = subst (λ (f : Fed). 0 < f.frames) (sym c.self.view_is) c.requires.some in
+    let some = some-frames _ _ c.self.view_is c.requires.some in
     let begun : i.begun ≡ c.args.self.now.begun = ap (λ (f : Fed). f.begun) c.self.view_is in
     let few = few-frames i.frames i.size i.per_tick inv.some (inv.whole some) in
     let most = inv.few in
@@ -77,7 +80,7 @@ pub number_of-requires : goal.number_of-requires
 number_of-requires c =
     let i = c.self.inside in
     let inv = c.self.invariant in
-    let some : 0 < i.frames = subst (λ (f : Fed). 0 < f.frames) (sym c.self.view_is) c.requires.some in
+    let some = some-frames _ _ c.self.view_is c.requires.some in
     let left = left_length i.octets.len c.map_frames.new.octets i.octets.items
     (sym (c.map_frames.auto.octets ∙ c.deref_mut-2.ensures.len))
     (sym c.deref_mut-2.ensures.len ∙ ap length c.deref_mut-2.ensures.value) in
@@ -111,7 +114,7 @@ add_frames-requires c =
     let i = c.self.inside in
     let p = i.layout in
     let inv = c.self.invariant in
-    let some : 0 < i.frames = subst (λ (f : Fed). 0 < f.frames) (sym c.self.view_is) c.requires.some in
+    let some = some-frames _ _ c.self.view_is c.requires.some in
     let shape : c.args.s.now.shape ≡ p = c.requires.shape
     ∙ sym (ap (λ (f : Fed). f.params) c.self.view_is) in
     let legal : broken_law p ≡ None = ap broken_law (sym shape) ∙ c.params-params.ensures.legal in
@@ -134,13 +137,20 @@ add_frames-requires c =
     (length c.args.handed.now * i.size) each long in
     let few = inv.few in
     let tick : length c.deref-in_default.result.now / (length c.args.handed.now * i.size) * i.size
-    ≡ i.per_tick = ap (λ (k : ℕ). k * i.size) count ∙ inv.whole some in
-    (subst (λ (k : ℕ). 0 < k) (sym count) some,
-    (each,
-    (counted (length c.deref-in_default.result.now) i.frames (length c.args.handed.now * i.size) each
-    long,
-    (subst (λ (k : ℕ). k ≤ 8) (sym tick) few,
-    c.requires.none ∙ ap (λ (k : ℕ). replicate k 0) (sym lanes)))))
+    ≡ i.per_tick = ap (λ (k : ℕ). k * i.size) count ∙ inv.whole some in (
+      subst (λ (k : ℕ). 0 < k) (sym count) some,
+      (
+        each,
+        (
+          counted (length c.deref-in_default.result.now) i.frames (length c.args.handed.now * i.size) each
+              long,
+          (
+            subst (λ (k : ℕ). k ≤ 8) (sym tick) few,
+            c.requires.none ∙ ap (λ (k : ℕ). replicate k 0) (sym lanes),
+          ),
+        ),
+      ),
+    )
 
 pub invariant_of-self-in_default : goal.invariant_of-self-in_default
 invariant_of-self-in_default c =
@@ -160,12 +170,13 @@ returns-in-len1-clause-handed c =
     let p = i.layout in
     let f = c.args.self.now in
     let inv = c.self.invariant in
-    let some : 0 < i.frames = subst (λ (f : Fed). 0 < f.frames) (sym c.self.view_is) c.requires.some in
+    let some = some-frames _ _ c.self.view_is c.requires.some in
     let shape : c.args.s.now.shape ≡ p = c.requires.shape
     ∙ sym (ap (λ (f : Fed). f.params) c.self.view_is) in
     let left = left_in i.words.len c.source_frames.new.words i.words.items
     (sym (c.source_frames.auto.words ∙ c.deref_mut.ensures.len)) in
-    let frames = subst (λ (f : Fed). HasFrames c.args.s.now f c.map_frames.new.octets) c.self.view_is
+    let frames = subst (λ (f : Fed). HasFrames c.args.s.now f c.map_frames.new.octets)
+    c.self.view_is
     (tick-frames c.args.s.now p i.frames i.begun c.from.result c.deref_mut.result.now
     c.deref.result.now c.source_frames.new.words c.map_frames.new.octets
     c.layout_laws.ensures.one_frame c.params-params.ensures.legal shape
@@ -202,7 +213,7 @@ pub returns-in-len1-clause-small : goal.returns-in-len1-clause-small
 returns-in-len1-clause-small c =
     let i = c.self.inside in
     let inv = c.self.invariant in
-    let some : 0 < i.frames = subst (λ (f : Fed). 0 < f.frames) (sym c.self.view_is) c.requires.some in
+    let some = some-frames _ _ c.self.view_is c.requires.some in
     let left = left_length i.octets.len c.map_frames.new.octets i.octets.items
     (sym (c.map_frames.auto.octets ∙ c.deref_mut-2.ensures.len))
     (sym c.deref_mut-2.ensures.len ∙ ap length c.deref_mut-2.ensures.value) in
@@ -228,12 +239,13 @@ returns-in_default-clause-handed c =
     let p = i.layout in
     let f = c.args.self.now in
     let inv = c.self.invariant in
-    let some : 0 < i.frames = subst (λ (f : Fed). 0 < f.frames) (sym c.self.view_is) c.requires.some in
+    let some = some-frames _ _ c.self.view_is c.requires.some in
     let shape : c.args.s.now.shape ≡ p = c.requires.shape
     ∙ sym (ap (λ (f : Fed). f.params) c.self.view_is) in
     let left = left_in i.words.len c.source_frames.new.words i.words.items
     (sym (c.source_frames.auto.words ∙ c.deref_mut.ensures.len)) in
-    let frames = subst (λ (f : Fed). HasFrames c.args.s.now f c.map_frames.new.octets) c.self.view_is
+    let frames = subst (λ (f : Fed). HasFrames c.args.s.now f c.map_frames.new.octets)
+    c.self.view_is
     (tick-frames c.args.s.now p i.frames i.begun c.from.result c.deref_mut.result.now
     c.deref.result.now c.source_frames.new.words c.map_frames.new.octets
     c.layout_laws.ensures.one_frame c.params-params.ensures.legal shape
@@ -252,7 +264,8 @@ returns-in_default-clause-handed c =
     let each : 1 ≤ f.params.f = omega arith in
     let lanes : length c.args.handed.now ≡ f.params.l = ap length c.requires.none
     ∙ length-replicate f.params.l 0 in
-    let read : c.deref-in_default.result.now ≡ c.map_frames.new.octets = c.deref-in_default.ensures.value
+    let read : c.deref-in_default.result.now ≡ c.map_frames.new.octets =
+    c.deref-in_default.ensures.value
     ∙ left_in i.octets.len c.map_frames.new.octets i.octets.items
     (sym (c.map_frames.auto.octets ∙ c.deref_mut-2.ensures.len)) in
     let all : length c.args.handed.now * i.size ≡ f.params.l * f.params.f =
@@ -275,7 +288,7 @@ pub returns-in_default-clause-small : goal.returns-in_default-clause-small
 returns-in_default-clause-small c =
     let i = c.self.inside in
     let inv = c.self.invariant in
-    let some : 0 < i.frames = subst (λ (f : Fed). 0 < f.frames) (sym c.self.view_is) c.requires.some in
+    let some = some-frames _ _ c.self.view_is c.requires.some in
     let f = c.args.self.now in
     let p = f.params in
     let read = c.deref-in_default.ensures.value
