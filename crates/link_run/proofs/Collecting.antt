@@ -22,7 +22,7 @@ use Rattle.link_model.specs.Kinds.{kind_of, moment_of, run_of}
 use Rattle.link_model.specs.kept.LaneRuns.{given_by, lane_stepped}
 use Rattle.link_model.specs.Moments.{History}
 use Rattle.link_model.specs.Run.{run}
-use Rattle.link_run.proofs.GiveFacts.{begun-few, columns-early, columns-late, columns-still, columns_left, delivered-frames, delivered-nothing, have-octets, no-octets, with_tick}
+use Rattle.link_run.proofs.GiveFacts.{columns-early, columns-late, columns-still, columns_left, delivered-frames, delivered-nothing, with_tick}
 use Rattle.link_run.proofs.RunFacts.{IsRunOf}
 use Rattle.link_run.specs.Given.{cells_at, cells_in}
 use Rattle.link_run.specs.kept.Collected.{Collecting, Collects, HasCollected, columns_of, lead_of}
@@ -288,8 +288,6 @@ collects-still was s t n r l cells halts none =
       delivered_is = delivered-in s t was.gathering.frames was.gathering.at
           (rw none (delivered-nothing s h was.gathering.at
           (delivered-still (kind_of p) s h halts)));
-      sizes = rw none (no-octets p);
-      begun = begun-few s h was.gathering (columns_left s h) r l.gathered;
     }
 
 pub collects-early : (was : Collecting) (s : Plan) (t n : ℕ) → IsRunOf s (run_of s t)
@@ -318,8 +316,6 @@ collects-early was s t n r l cells goes some none =
       delivered_is = delivered-in s t was.gathering.frames was.gathering.at
           (rw none (delivered-nothing s h was.gathering.at
           (delivered-early (kind_of p) s h r.facts r.legal r.lanes r.octets r.begun r.kept early)));
-      sizes = rw none (no-octets p);
-      begun = begun-few s h was.gathering (columns_left s h) r l.gathered;
     }
 
 -- a tick in which each lane gives a cell
@@ -372,9 +368,6 @@ collects-late was now given s t n r l cells goes none same taken gave first_same
           (cells lane w (omega arith));
       delivered_is = delivered-in s t now.gathering.frames now.gathering.at
           (delivered-frames s h now.gathering more r columns frames gathered);
-      sizes = have-octets p (length (columns_left s h)) (columns_left s h ++ more)
-          now.gathering.frames frames;
-      begun = begun-few s h now.gathering (columns_left s h ++ more) r gathered;
     }
 
 -- ---- before the first tick

@@ -1,12 +1,8 @@
 -- What the lanes give in a tick, and the frames that leave.
-use Rattle.std.proofs.Common.{◌≡◌, ◌∙◌, ◌<◌, ◌≤◌, ◌+◌, ◌-◌, ◌*◌, ◌/◌, ◌%◌, ◌&&◌, nat_le, ℕ, Bool, true, false, List, [], ◌∷◌, ◌++◌, map, length, get_or, if◌then◌else◌, arith, sym, ap, ap₂, subst, refl, length-append, append-nil}
-use Rattle.std.specs.Prelude.{All}
-use Rattle.std.proofs.Math.Nat.{mod-lt}
+use Rattle.std.proofs.Common.{◌≡◌, ◌∙◌, ◌<◌, ◌≤◌, ◌+◌, ◌-◌, ◌*◌, ◌/◌, ◌%◌, ◌&&◌, nat_le, ℕ, Bool, true, false, List, [], ◌∷◌, ◌++◌, map, length, get_or, if◌then◌else◌, arith, sym, ap, ap₂, refl, length-append, append-nil}
 use Rattle.std.proofs.lemmas.Bool.{le-leb, lt-leb}
 use Rattle.std.proofs.lemmas.List.{get_or-map, length-map}
-use Rattle.std.proofs.lemmas.List.Elements.{All-map}
 use Rattle.link_params.specs.declared.fields.Params.{Params}
-use Rattle.link_params.specs.declared.cells.LaneCell.{LaneCell}
 use Rattle.link_params.specs.Lanes.{LaneKind}
 use Rattle.link_params.specs.Numbers.{octets_per_tick}
 use Rattle.sample_map.specs.Frames.{words_of}
@@ -20,13 +16,12 @@ use Rattle.link_model.proofs.KindFacts.{lead}
 use Rattle.link_model.proofs.LaneHistory.{HasHunt, lane-run-next}
 use Rattle.link_model.proofs.NumberLists.{get_or-numbers, length-numbers, map-numbers}
 use Rattle.link_model.proofs.WholeFrames.{delivered-by-place}
-use Rattle.link_model.specs.kept.Before.{Columns, cell_at, cells_of, delivered_at, octet_columns}
+use Rattle.link_model.specs.kept.Before.{Columns, delivered_at, octet_columns}
 use Rattle.link_model.specs.Gives.{gives_in}
 use Rattle.link_model.specs.Hunts.{session}
 use Rattle.link_model.specs.Kinds.{kind_of, moment_of}
 use Rattle.link_model.specs.kept.LaneRuns.{LaneRun, lane_run, lane_stepped}
 use Rattle.link_model.specs.Moments.{Delivered, History}
-use Rattle.link_run.proofs.Marks.{length-cells}
 use Rattle.link_run.proofs.RunFacts.{IsRunOf}
 use Rattle.link_run.specs.kept.Gathered.{FramesAre, Gathering, HasGathered, Whole, delivered_of, no_frame, whole_of}
 use Rattle.link_run.specs.kept.Collected.{columns_of}
@@ -169,32 +164,3 @@ pub delivered-nothing : (s : Plan) (h : History) (begun : ℕ) → (moment_of s 
     (octets_per_tick s.link.params * (length h + 1)) [] begun
 unfolding numbers_from
 delivered-nothing s h begun none = none
-
-octets-size : (p : Params) (columns : Columns) (n : ℕ)
-    → length ((whole_of p columns n).octets) ≡ p.l * p.f
-octets-size p columns n =
-    let cells : List LaneCell = cells_of p columns n p.f in
-    length-map cells (λ c. c.value)
-    ∙ length-cells (λ i. cell_at p columns n (i / p.f) (i % p.f)) (p.l * p.f)
-
--- the frames have L·F octets each
-pub have-octets : (p : Params) (before : ℕ) (columns : Columns) (frames : List Whole)
-    → FramesAre frames p before columns
-    → All (λ (f : Whole). length f.octets ≡ p.l * p.f) frames
-have-octets p before columns frames are =
-    let numbers : List ℕ =
-    numbers_from (before / p.f) (length columns / p.f - before / p.f) in
-    subst (All (λ (f : Whole). length f.octets ≡ p.l * p.f)) (sym are)
-    (All-map (λ (f : Whole). length f.octets ≡ p.l * p.f) (whole_of p columns) numbers
-    (λ k d inside. octets-size p columns (get_or numbers k d)))
-
-pub no-octets : (p : Params) → All (λ (f : Whole). length f.octets ≡ p.l * p.f) []
-no-octets p = λ k d inside. absurd (omega arith)
-
-pub begun-few : (s : Plan) (h : History) (now : Gathering) (columns : Columns) → IsRunOf s h
-    → HasGathered now s.link.params columns → now.at ≤ 256
-begun-few s h now columns r gathered =
-    let count = gathered.count in
-    let small = mod-lt (length columns) r.octets in
-    let few = r.few_octets in
-    omega arith

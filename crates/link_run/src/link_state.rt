@@ -198,9 +198,7 @@ impl LinkState {
         ensures seen { (s : Plan) (t m : ℕ) → HasSegment self.old s t m i → i ≤ m
             → IsSeen result (alarms_in self.old i) self.new.collecting.gathering.frames self.new.collecting.gathering.at s (run_of s (t + i)) }
         ensures goes_on { (s : Plan) (t m : ℕ) → HasSegment self.old s t m i → i ≤ m
-            → HasSegment self.new s t m (suc i)
-            × All (λ (f : Whole). length f.octets ≡ s.link.params.l * s.link.params.f) self.new.collecting.gathering.frames
-            × (self.new.collecting.gathering.at ≤ 256) }
+            → HasSegment self.new s t m (suc i) }
         ensures place { IfSome result.place (λ x. x < 1024) }
         ensures same { self.new ≡ record self.old { collecting = self.new.collecting } }
         ensures ends { self.new.collecting.ends ≡ self.old.collecting.ends }

@@ -1,6 +1,6 @@
 -- The cells that are taken from the rings of the lanes, and the frames that are gathered from them.
 -- Code: the ends of the rings, a count, and one frame.
-use Rattle.std.specs.Prelude.{◌≡◌, ◌<◌, ◌≤◌, ℕ, suc, ◌+◌, ◌-◌, ◌*◌, Bool, true, if◌then◌else◌, List, All, length, get_or, None}
+use Rattle.std.specs.Prelude.{◌≡◌, ◌<◌, ℕ, suc, ◌+◌, ◌-◌, ◌*◌, Bool, true, if◌then◌else◌, List, length, get_or, None}
 use Rattle.link_params.specs.declared.fields.Params.{Params}
 use Rattle.link_params.specs.Laws.{broken_law, is_b}
 use Rattle.link_params.specs.Numbers.{octets_per_tick, period}
@@ -11,7 +11,7 @@ use Rattle.link_model.specs.Gives.{gives_in}
 use Rattle.link_model.specs.Kinds.{kind_of, moment_of, run_of}
 use Rattle.link_model.specs.Moments.{History}
 use Rattle.lane_threads.specs.declared.cell_end.CellEnd.{CellEnd}
-use Rattle.link_run.specs.kept.Gathered.{Gathering, HasGathered, Whole, delivered_of}
+use Rattle.link_run.specs.kept.Gathered.{Gathering, HasGathered, delivered_of}
 use Rattle.link_run.specs.kept.Waits.{HaveRoom, HaveWaiting, Waits}
 
 -- the ends, the cells that wait, how many entries of a session are places of the alignment
@@ -59,6 +59,3 @@ pub record Collects (now : Collecting) (s : Plan) (t n : ℕ) : Type 0 where
   pub cells : HaveWaiting now.waiting s (suc t) n
   pub delivered_is : (moment_of s (run_of s t)).delivered ≡ delivered_of s.link.params
       (octets_per_tick s.link.params * (t + 1)) now.gathering.frames now.gathering.at
-  pub sizes : All (λ (f : Whole). length f.octets ≡ s.link.params.l * s.link.params.f)
-      now.gathering.frames
-  pub begun : now.gathering.at ≤ 256

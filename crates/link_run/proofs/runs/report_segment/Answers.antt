@@ -88,7 +88,7 @@ report_tick-requires-clause-frames g c =
     let within : c.loop-i.i ≤ m = omega arith in
     let on = c.collect-seen.ensures.goes_on plan c.args.from m h within in
     ap (λ (d : Gathering). d.params) c.delivered-frames.ensures
-    ∙ on.0.collected.gathered.same_params ∙ same_params c.args.s.now plan is
+    ∙ on.collected.gathered.same_params ∙ same_params c.args.s.now plan is
 
 pub report_tick-requires-clause-shape : goal.report_tick-requires-clause-shape
 report_tick-requires-clause-shape g c = λ p is.
@@ -156,7 +156,7 @@ loop-i-preserved g c =
           let all : end ≡ t + suc m = omega arith in
           part-next c.loop-i.state now plan t end m i (had.stands plan is) all
           (ap (λ (v : LinkView). v.last) c.collect-seen.ensures.same)
-          (c.collect-seen.ensures.goes_on plan t m h within).0;
+          (c.collect-seen.ensures.goes_on plan t m h within);
       reported = λ plan is.
           let (m, count, h) = segment-then g before-it.In-loop-i plan is in
           let within : i ≤ m = omega arith in

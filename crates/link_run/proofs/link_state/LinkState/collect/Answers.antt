@@ -73,12 +73,8 @@ pub returns-clause-goes_on : goal.returns-clause-goes_on
 returns-clause-goes_on c = λ s t m h within.
     let v : LinkView = c.args.self.now in
     let now : Collecting = c.take.new.self in
-    let took = took-of c s t m h within in (
-      subst (λ (x : LinkView). HasSegment (with_collecting x now) s t m (suc c.args.i))
-          (sym c.self.view_is) (has-segment-next v now s t m c.args.i h within took),
-      took.sizes,
-      took.begun,
-    )
+    subst (λ (x : LinkView). HasSegment (with_collecting x now) s t m (suc c.args.i))
+    (sym c.self.view_is) (has-segment-next v now s t m c.args.i h within (took-of c s t m h within))
 
 pub returns-clause-place : goal.returns-clause-place
 returns-clause-place c =
