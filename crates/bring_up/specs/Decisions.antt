@@ -9,12 +9,12 @@ use Rattle.link_params.specs.declared.fields.Params.{Params}
 use Rattle.link_params.specs.declared.fields.Timing.{Timing}
 use Rattle.link_params.specs.Numbers.{period}
 use Rattle.link_params.specs.declared.ilas_state.IlasCause.{IlasCause}
-use Rattle.link_params.specs.declared.ilas_state.IlasCause.TheVariants.{Code, Wrong, Config, Fchk}
+use Rattle.link_params.specs.declared.ilas_state.IlasCause.TheVariants as reason
 use Rattle.link_params.specs.declared.ilas_state.IlasState.{IlasState}
 use Rattle.link_params.specs.declared.ilas_state.IlasState.TheVariants.{Idle, Going, Done, Fault}
 use Rattle.link_params.specs.declared.lane_report.LaneReport.{LaneReport}
 use Rattle.link_params.specs.declared.alarms.Alarm.{Alarm}
-use Rattle.link_params.specs.declared.alarms.Alarm.TheVariants.{LaneWindow, LaneMissing, LaneLost, NoLock, IlasFault, ConfigMismatch, StartTimeout}
+use Rattle.link_params.specs.declared.alarms.Alarm.TheVariants.{LaneWindow, LaneMissing, LaneLost, NoLock, IlasFault, ConfigMismatch, LaneId, StartTimeout}
 use Rattle.link_params.specs.Lanes.{is_inside}
 use Rattle.bring_up.specs.declared.stage.Stage.{Stage}
 use Rattle.bring_up.specs.declared.stage.Stage.TheVariants as stage
@@ -47,10 +47,11 @@ lane_lost lane r = if_so r.lost (LaneLost lane)
 
 -- a fault of the alignment sequence; first: the place of configuration octet 0
 abbrev pub fault_alarm : ℕ → ℕ → ℕ → IlasCause → Alarm
-fault_alarm first lane x Config = ConfigMismatch lane (x - first)
-fault_alarm first lane x Code = IlasFault lane x
-fault_alarm first lane x Wrong = IlasFault lane x
-fault_alarm first lane x Fchk = IlasFault lane x
+fault_alarm first lane x (reason.LaneId lid) = LaneId lane lid
+fault_alarm first lane x reason.Config = ConfigMismatch lane (x - first)
+fault_alarm first lane x reason.Code = IlasFault lane x
+fault_alarm first lane x reason.Wrong = IlasFault lane x
+fault_alarm first lane x reason.Fchk = IlasFault lane x
 
 abbrev pub state_alarm : ℕ → ℕ → IlasState → List Alarm
 state_alarm first lane (Fault x cause) = fault_alarm first lane x cause ∷ []

@@ -8,7 +8,7 @@ ghost use Rattle.bring_up.specs.kept.Controls.{NamesOctet};
 ghost use Rattle.bring_up.specs.Decisions.{alarms_from, if_so, state_alarm, window_alarm};
 
 use crate::alarm_row::AlarmRow;
-use link_params::{Alarm, IlasCause, IlasState, LaneReport, Link, Timing};
+use link_params::{Alarm, IlasCause, IlasState, LaneReport, Link};
 
 /// A class of alarms of lanes.
 #[derive(Clone, Copy, Debug)]
@@ -48,7 +48,7 @@ impl Class {
             Class::NotLocked => alarm_if(!report.locked, Alarm::NoLock { lane }),
             Class::Lost => alarm_if(report.lost, Alarm::LaneLost { lane }),
             Class::Faulty => fault_alarm(link.shape().period() + 2, lane, report.ilas),
-            Class::Outside => window_alarm(&link.timing(), lane, report.started),
+            Class::Outside => window_alarm(link, lane, report.started),
             Class::Missing => alarm_if(report.started.is_none(), Alarm::LaneMissing { lane }),
         }
     }
@@ -67,6 +67,7 @@ fn fault_alarm(first: u32, lane: u32, state: IlasState) -> Option<Alarm>
 {
     match state {
         IlasState::Fault { place, cause } => Some(match cause {
+            IlasCause::LaneId { lid } => Alarm::LaneId { lane, lid },
             IlasCause::Config => Alarm::ConfigMismatch {
                 lane,
                 octet: place - first,
@@ -80,10 +81,10 @@ fn fault_alarm(first: u32, lane: u32, state: IlasState) -> Option<Alarm>
 }
 
 // The alarm of a start outside the window.
-fn window_alarm(timing: &Timing, lane: u32, started: Option<u32>) -> Option<Alarm>
-    ensures { listed result ≡ window_alarm timing.now lane started }
+fn window_alarm(link: &Link, lane: u32, started: Option<u32>) -> Option<Alarm>
+    ensures { listed result ≡ window_alarm link.now.timing lane started }
 {
     let offset = started?;
-    let inside = timing.w_lo <= offset && offset <= timing.w_hi;
+    let inside = link.is_inside(offset);
     alarm_if(!inside, Alarm::LaneWindow { lane, offset })
 }

@@ -111,7 +111,7 @@ fn step_at(at: u32) -> Step {
         17 => calm(Decision::Arm, LOCKED, LOCKED),
         18..=24 => calm(Decision::Stay, LOCKED, LOCKED),
         25 => alarmed(LOCKED, LOCKED, Alarm::StartTimeout),
-        29 | 34 | 39 | 44 | 49 => calm(Decision::Arm, LOCKED, LOCKED),
+        29 | 34 | 39 | 44 | 49 | 54 => calm(Decision::Arm, LOCKED, LOCKED),
         30 => alarmed(started(6), LOCKED, Alarm::LaneMissing { lane: 1 }),
         35 => alarmed(LOCKED, started(7), Alarm::LaneWindow { lane: 1, offset: 7 }),
         40 => alarmed(lost(), started(7), Alarm::LaneLost { lane: 0 }),
@@ -123,8 +123,19 @@ fn step_at(at: u32) -> Step {
                 Some(Alarm::IlasFault { lane: 1, place: 80 }),
             ],
         },
-        50 => calm(Decision::Release, started(5), started(6)),
-        51..=60 => calm(Decision::Stay, started(5), started(6)),
+        50 => Step {
+            reports: [
+                faulty(68, IlasCause::LaneId { lid: 9 }),
+                faulty(81, IlasCause::Fchk),
+            ],
+            decision: Decision::Hunt,
+            alarms: [
+                Some(Alarm::LaneId { lane: 0, lid: 9 }),
+                Some(Alarm::IlasFault { lane: 1, place: 81 }),
+            ],
+        },
+        55 => calm(Decision::Release, started(5), started(6)),
+        56..=60 => calm(Decision::Stay, started(5), started(6)),
         61 => alarmed(started(5), lost(), Alarm::LaneLost { lane: 1 }),
         _ => calm(Decision::Stay, LOCKED, LOCKED),
     }

@@ -2,10 +2,10 @@
 -- (JESD204B.01 clauses 5.3.3.5 initial lane alignment and 8.3 link configuration data; the causes
 -- are this project's own). A place counts characters from the start of the sequence.
 -- Code: one reading at a time, with the configuration octets so far.
-use Rattle.std.specs.Prelude.{ℕ, suc, ◌+◌, ◌-◌, ◌*◌, ◌==◌, nat_le, nat_lt, Bool, true, false, ◌&&◌, if◌then◌else◌, List, [], ◌∷◌, map, length, take, drop, Option, Some, None}
+use Rattle.std.specs.Prelude.{ℕ, suc, ◌+◌, ◌-◌, ◌*◌, ◌%◌, ◌==◌, nat_le, nat_lt, Bool, true, false, ◌&&◌, if◌then◌else◌, List, [], ◌∷◌, map, length, take, drop, Option, Some, None}
 use Rattle.link_params.specs.declared.fields.Params.{Params}
 use Rattle.link_params.specs.declared.ilas_state.IlasCause.{IlasCause}
-use Rattle.link_params.specs.declared.ilas_state.IlasCause.TheVariants.{Code, Wrong, Config, Fchk}
+use Rattle.link_params.specs.declared.ilas_state.IlasCause.TheVariants.{Code, Wrong, LaneId, Config, Fchk}
 use Rattle.link_params.specs.declared.ilas_state.IlasState.{IlasState}
 use Rattle.link_params.specs.declared.ilas_state.IlasState.TheVariants.{Idle, Going, Done, Fault}
 use Rattle.link_params.specs.Numbers.{period}
@@ -28,11 +28,15 @@ is_allowed (Data a) (Control c) = false
 abbrev pub config_read : Params → List Reading → List ℕ
 config_read p readings = map octet_read (take 14 (drop (period p + 2) readings))
 
+-- why octet i, read as o, is not the lane's: octet 2 names another lane, by its five low bits
+abbrev pub difference : ℕ → ℕ → IlasCause
+difference i o = if i == 2 then LaneId (o % 32) else Config
+
 -- what is wrong with the configuration octet i that was read as o: octet 13 is neither sum, or another differs in its
 -- compared bits
 abbrev pub config_cause : Params → ℕ → List Reading → ℕ → ℕ → Option IlasCause
 config_cause p lane readings i o = if i == 13 then (if has_sum (config_read p readings) then None else Some Fchk)
-    else (if differs p lane i o then Some Config else None)
+    else (if differs p lane i o then Some (difference i o) else None)
 
 -- why the reading at place x breaks a rule, after the readings up to it
 unfoldable pub cause_at : Params → ℕ → List Reading → ℕ → Reading → Option IlasCause

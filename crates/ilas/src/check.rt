@@ -5,7 +5,7 @@ ghost use Rattle.link_params.specs.declared.fields.Mode.TheVariants.{B};
 ghost use Rattle.link_params.specs.declared.ilas_state.IlasState.TheVariants.{Done, Going};
 ghost use Rattle.link_params.specs.Numbers.{period};
 ghost use Rattle.code_8b10b.specs.declared.character.Reading.{Reading as ReadingValue};
-ghost use Rattle.ilas.specs.Checked.{ilas_state, cause_at, config_cause, config_read, fault_or, is_allowed};
+ghost use Rattle.ilas.specs.Checked.{ilas_state, cause_at, config_cause, config_read, difference, fault_or, is_allowed};
 ghost use Rattle.ilas.specs.kept.Checks.{HasChecked, has_fault, kept};
 ghost use Rattle.code_8b10b.specs.Reads.{octet_of_char, octet_read};
 
@@ -186,8 +186,21 @@ fn config_cause(
         };
     }
     if octet_differs(link, lane, index, octet) {
-        Some(IlasCause::Config)
+        Some(difference(index, octet))
     } else {
         None
+    }
+}
+
+// Why configuration octet `index` is not the lane's.
+fn difference(index: u32, octet: u8) -> IlasCause
+    ensures { result ≡ difference index octet }
+{
+    if index == 2 {
+        IlasCause::LaneId {
+            lid: u32::from(octet % 32),
+        }
+    } else {
+        IlasCause::Config
     }
 }

@@ -145,7 +145,7 @@ fn fault(place: u32, cause: IlasCause) -> IlasState {
 #[test]
 fn checks_of_two_lanes(rt: HostRuntime) {
     let (x, least) = (usual(), short(17));
-    let other_lane = fault(68, IlasCause::Config);
+    let other_lane = fault(68, IlasCause::LaneId { lid: 1 });
     let table = [
         (x, 0, 0, 255, IlasState::Going),
         (x, 0, 0, 256, IlasState::Done),

@@ -340,10 +340,9 @@ impl Start {
         ensures inside { result.inside ≡ is_inside link.now.timing offset }
         ensures has_read { HasRead result.lane link.now.params lane [] }
     {
-        let timing = link.timing();
         Start {
             offset,
-            inside: timing.w_lo <= offset && offset <= timing.w_hi,
+            inside: link.is_inside(offset),
             lane: Started::new(link, lane),
         }
     }

@@ -450,10 +450,9 @@ impl Start {
     fn new(link: &Link, offset: u32) -> Start
         ensures { result ≡ start_at link.now.timing offset }
     {
-        let timing = link.timing();
         Start {
             offset,
-            inside: timing.w_lo <= offset && offset <= timing.w_hi,
+            inside: link.is_inside(offset),
         }
     }
 }

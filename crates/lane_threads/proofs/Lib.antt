@@ -1,4 +1,5 @@
 pub mod KindEnds
 pub mod PairLemmas
 pub mod SegmentLemmas
+pub mod InvertedBits
 pub mod LaneLists

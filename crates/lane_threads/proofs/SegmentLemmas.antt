@@ -6,6 +6,7 @@ use Rattle.link_params.specs.declared.cells.LaneCell.{LaneCell}
 use Rattle.link_params.specs.Lanes.{LaneKind}
 use Rattle.scenario.specs.Plans.{Plan}
 use Rattle.link_model.specs.Kinds.{kind_of}
+use Rattle.link_model.specs.Wiring.{route_of}
 use Rattle.link_model.specs.kept.LaneRuns.{LaneRun, given_by, held_by, stepped}
 use Rattle.lane_threads.specs.declared.lane_pair.LanePair.{LanePair}
 use Rattle.lane_threads.specs.declared.step.Step.{Step}
@@ -59,7 +60,7 @@ pub held-is : (a : LanePair) (s : Plan) (lane : ℕ) (x : LaneRun) → HasRunLan
     → length (buffer_in a.lane.rx).cells
     ≡ held_by (kind_of s.link.params) s (λ _. x) lane
 held-is a s lane x h =
-    buffer-count a.lane.rx s.link.params s.link.timing lane x.taken x.gave h.rx
+    buffer-count a.lane.rx s.link.params s.link.timing (route_of s lane) x.taken x.gave h.rx
 
 lane-more : (steps : List Step) (gives : Bool) (n : ℕ) (a b c d : LanePair) (s : Plan) (lane : ℕ)
     (x : LaneRun) → n < length steps → HasRunTo n steps gives a b

@@ -1,15 +1,17 @@
 //! Both ends of a lane and the line between them.
-ghost use Rattle.std.specs.Prelude.{◌≡◌, ◌≤◌, ◌<◌, ◌+◌, ◌-◌, ◌*◌, [], ℕ, None, false, length, get_or, IfOk};
+ghost use Rattle.std.specs.Prelude.{◌≡◌, ◌≤◌, ◌<◌, ◌+◌, ◌-◌, ◌*◌, ◌^◌, [], ℕ, None, false, length, get_or, IfOk};
 ghost use Rattle.std.specs.List.Sorted.{IsStrictlyIncreasing};
+ghost use Rattle.jesd_base.specs.Bits.{bits as bits_of};
 ghost use Rattle.link_params.specs.Lanes.{Placed};
 ghost use Rattle.link_params.specs.Numbers.{width};
 ghost use Rattle.line_model.specs.kept.Lines.{HasCarried};
 ghost use Rattle.lane_b.specs.kept.Gives.{given};
 ghost use Rattle.lane_c.specs.kept.Receivers.{IsArmedOn};
 ghost use Rattle.scenario.specs.Plans.{Plan};
-ghost use Rattle.link_model.specs.Carried.{inverted_bits};
+ghost use Rattle.link_model.specs.Carried.{inverted_bits, with_polarity};
+ghost use Rattle.link_model.specs.Wiring.{route_of, wire_of};
 ghost use Rattle.link_model.specs.Kinds.{kind_of};
-ghost use Rattle.link_model.specs.kept.LaneRuns.{LaneRun, no_run, stepped};
+ghost use Rattle.link_model.specs.kept.LaneRuns.{HasNewEnds, LaneRun, no_run, stepped};
 ghost use Rattle.lane_threads.specs.kept.LaneEnds.{IsSmall, MayFollow, buffer_in, next_after, next_in, params_in, tx_width};
 ghost use Rattle.lane_threads.specs.kept.LaneRuns.{HasRunLane, settings};
 
@@ -21,12 +23,14 @@ use link_params::{LaneCell, LaneReport, Link, RxOrder, TxOrder};
 use std::alloc::Global;
 use std::marker::Model;
 
-/// A transmitter lane, a line and a receiver lane.
+/// A transmitter lane, a line and a receiver lane, and whether all bits that the receiver lane takes
+/// are inverted.
 #[derive(Drop)]
 pub struct Lane {
     tx: TxLane,
     line: Line,
     rx: RxLane,
+    inverted: bool,
 }
 
 impl Model for Lane {
@@ -34,7 +38,7 @@ impl Model for Lane {
 
     ghost Value = { Pair };
 
-    ghost view = { λ s. record { tx = s.tx; line = s.line; rx = s.rx } };
+    ghost view = { λ s. record { tx = s.tx; line = s.line; rx = s.rx; inverted = s.inverted } };
 
     ghost invariant = { λ s. AreAlike s.tx s.line s.rx };
 }
@@ -42,34 +46,52 @@ impl Model for Lane {
 impl Lane {
     /// A lane before the first tick of a run. `flips` are the received bits that are inverted,
     /// ascending. All memory that the lane needs is taken here; `NoMemory` where there is none.
-    pub fn open(alloc: Global, link: &Link, lane: u32, flips: Vec<u64>) -> Result<Lane, NoMemory>
+    pub fn open(
+        alloc: Global,
+        link: &Link,
+        lane: u32,
+        expect: u32,
+        flips: Vec<u64>,
+    ) -> Result<Lane, NoMemory>
         requires lane { lane < link.now.params.l }
+        requires expect { expect < link.now.params.l }
         requires ascending { IsStrictlyIncreasing flips.items }
-        ensures begins { (s : Plan) → s.link ≡ link.now
-            → flips.items ≡ inverted_bits s lane (width link.now.params * s.ticks)
-            → IfOk result (λ x. HasRunLane x s lane (no_run s)) }
+        ensures begins { (s : Plan) (own : ℕ) → s.link ≡ link.now → wire_of s own ≡ lane
+            → route_of s own ≡ expect
+            → flips.items ≡ inverted_bits s own (width link.now.params * s.ticks)
+            → IfOk result (λ x. HasRunLane x s own (no_run s)) }
         ensures next { IfOk result (λ x. (params_in x.tx ≡ link.now.params) × (next_in x.tx ≡ None)) }
     {
         let line = open_line(alloc, link, flips)?;
-        Lane::with_line(alloc, link, lane, line)
+        Lane::with_line(alloc, link, lane, expect, line)
     }
 
-    /// A lane before its first tick, over a line to which no bit was given yet. All other memory
-    /// that the lane needs is taken here; `NoMemory` where there is none.
-    pub fn with_line(alloc: Global, link: &Link, lane: u32, line: Line) -> Result<Lane, NoMemory>
+    /// A lane before its first tick, over any line, also one that carried bits before: transmitter
+    /// lane `lane`, and a receiver lane that expects the configuration of lane `expect`. The bits
+    /// that it takes are not inverted. All other memory that the lane needs is taken here; `NoMemory`
+    /// where there is none.
+    pub fn with_line(
+        alloc: Global,
+        link: &Link,
+        lane: u32,
+        expect: u32,
+        line: Line,
+    ) -> Result<Lane, NoMemory>
         requires lane { lane < link.now.params.l }
+        requires expect { expect < link.now.params.l }
         requires width { line.set.width ≡ width link.now.params }
-        ensures begins { (s : Plan) → s.link ≡ link.now
-            → HasCarried line (settings s lane (no_run s)) []
-            → IfOk result (λ x. HasRunLane x s lane (no_run s)) }
+        ensures begins { (s : Plan) (own : ℕ) (x : LaneRun) → s.link ≡ link.now
+            → wire_of s own ≡ lane → route_of s own ≡ expect → HasNewEnds x
+            → HasCarried line (settings s own x) x.sent → IfOk result (λ l. HasRunLane l s own x) }
         ensures next { IfOk result (λ x. (params_in x.tx ≡ link.now.params) × (next_in x.tx ≡ None)) }
         ensures line { IfOk result (λ x. x.line ≡ line) }
     {
-        let rx = RxLane::open(alloc, link, lane)?;
+        let rx = RxLane::open(alloc, link, expect)?;
         Ok(Lane {
             tx: TxLane::new(link, lane),
             line,
             rx,
+            inverted: false,
         })
     }
 
@@ -89,14 +111,15 @@ impl Lane {
         ensures width { tx_width self.new.tx ≡ tx_width self.old.tx }
     {
         let sent = self.tx.tick(order, octets);
-        let received = self.line.step(sent);
+        let received = with_polarity(self.line.step(sent), self.tx.width(), self.inverted);
         self.rx.take(told, received);
     }
 
     /// The report of the receiver end.
     pub fn report(&self) -> LaneReport
         ensures { (s : Plan) (lane : ℕ) (x : LaneRun) → HasRunLane self.now s lane x
-            → result ≡ (kind_of s.link.params).report s.link.params s.link.timing lane x.taken }
+            → result ≡ (kind_of s.link.params).report s.link.params s.link.timing (route_of s lane)
+            x.taken }
     {
         self.rx.report()
     }
@@ -104,7 +127,8 @@ impl Lane {
     /// How many entries the elastic buffer holds.
     pub fn held(&self) -> u32
         ensures entries { (s : Plan) (lane : ℕ) (x : LaneRun) → HasRunLane self.now s lane x
-            → result ≡ length ((kind_of s.link.params).entries s.link.params s.link.timing lane x.taken) - x.gave }
+            → result ≡ length ((kind_of s.link.params).entries s.link.params s.link.timing
+            (route_of s lane) x.taken) - x.gave }
         ensures count { result ≡ length (buffer_in self.now.rx).cells }
     {
         self.rx.held()
@@ -114,7 +138,8 @@ impl Lane {
     pub fn give(&mut self) -> Option<LaneCell>
         requires { 0 < length (buffer_in self.old.rx).cells }
         ensures entry { (s : Plan) (lane : ℕ) (x : LaneRun) → HasRunLane self.old s lane x
-            → result ≡ given (get_or ((kind_of s.link.params).entries s.link.params s.link.timing lane x.taken) x.gave Placed) }
+            → result ≡ given (get_or ((kind_of s.link.params).entries s.link.params s.link.timing
+            (route_of s lane) x.taken) x.gave Placed) }
         ensures goes_on { (s : Plan) (lane : ℕ) (x : LaneRun) → HasRunLane self.old s lane x
             → HasRunLane self.new s lane (record x { gave = x.gave + 1 }) }
         ensures tx { self.new.tx ≡ self.old.tx }
@@ -154,6 +179,30 @@ impl Lane {
         ensures rx { self.new.rx ≡ self.old.rx }
     {
         self.line.set_dead(dead);
+    }
+
+    /// From this tick on all bits that the receiver lane takes are inverted, or none.
+    pub fn set_inverted(&mut self, on: bool)
+        ensures goes_on { (s : Plan) (lane : ℕ) (x : LaneRun) → HasRunLane self.old s lane x
+            → HasRunLane self.new s lane (record x { inverted = on }) }
+        ensures tx { self.new.tx ≡ self.old.tx }
+        ensures rx { self.new.rx ≡ self.old.rx }
+    {
+        self.inverted = on;
+    }
+}
+
+// The bits of a tick, each of them inverted or not.
+fn with_polarity(word: u128, width: u32, inverted: bool) -> u128
+    requires width { width ≤ 66 }
+    requires word { word < 2 ^ width }
+    ensures bits { bits_of width result ≡ with_polarity inverted (bits_of width word) }
+    ensures below { result < 2 ^ width }
+{
+    if inverted {
+        (1 << width) - 1 - word
+    } else {
+        word
     }
 }
 

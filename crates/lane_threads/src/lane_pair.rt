@@ -36,35 +36,41 @@ impl LanePair {
     ghost use Rattle.line_model.specs.kept.Lines.{HasCarried};
     ghost use Rattle.scenario.specs.Plans.{Plan};
     ghost use Rattle.link_model.specs.Kinds.{kind_of};
-    ghost use Rattle.link_model.specs.kept.LaneRuns.{LaneRun, no_run};
+    ghost use Rattle.link_model.specs.Wiring.{route_of, wire_of};
+    ghost use Rattle.link_model.specs.kept.LaneRuns.{HasNewEnds, LaneRun};
     ghost use Rattle.lane_threads.specs.Segments.{CanRun, HasRun, IsOnePair};
     ghost use Rattle.lane_threads.specs.kept.LaneEnds.{MayFollow, buffer_in, next_in, params_in, tx_width};
     ghost use Rattle.lane_threads.specs.kept.LaneRuns.{HasRunLane, settings};
     ghost use Rattle.lane_threads.specs.kept.SegmentRuns.{HasTicked, IsReady, KeepsRest};
 
-    /// A lane before its first tick, over a line to which no bit was given, and the other end of
-    /// its ring. It has room for the octets of one segment, and its ring for `cells` cells. All
-    /// memory is taken here; `NoMemory` where there is none.
+    /// A lane before its first tick, over any line of the link's width, also one that carried bits
+    /// before, and the other end of its ring: transmitter lane `lane`, and a receiver lane that
+    /// expects the configuration of lane `expect`. The bits that it takes are not inverted. The lane
+    /// has room for the octets of one segment, and its ring for `cells` cells. All memory is taken
+    /// here; `NoMemory` where there is none.
     pub fn open(
         alloc: Global,
         link: &Link,
         lane: u32,
+        expect: u32,
         line: Line,
         cells: u32,
     ) -> Result<(LanePair, CellEnd), NoMemory>
         requires lane { lane < link.now.params.l }
+        requires expect { expect < link.now.params.l }
         requires width { line.set.width ≡ width link.now.params }
         requires cells { 0 < cells }
-        ensures begins { (s : Plan) → s.link ≡ link.now
-            → HasCarried line (settings s lane (no_run s)) []
-            → IfOk result (λ r. HasRunLane r.0.lane s lane (no_run s)) }
+        ensures begins { (s : Plan) (own : ℕ) (x : LaneRun) → s.link ≡ link.now
+            → wire_of s own ≡ lane → route_of s own ≡ expect → HasNewEnds x
+            → HasCarried line (settings s own x) x.sent
+            → IfOk result (λ r. HasRunLane r.0.lane s own x) }
         ensures next { IfOk result (λ r. (params_in r.0.lane.tx ≡ link.now.params) × (next_in r.0.lane.tx ≡ None)) }
         ensures new { IfOk result (λ r. (r.0.fullest ≡ 0) × (r.0.room ≡ cells) × (sent r.0.ring ≡ [])) }
         ensures end { IfOk result (λ r. (received r.1.ring ≡ []) × (known_items r.1.ring ≡ [])) }
         ensures pair { IfOk result (λ r. IsOnePair r.0 r.1) }
     {
         let size = link.shape().period() as usize;
-        let lane = Lane::with_line(alloc, link, lane, line)?;
+        let lane = Lane::with_line(alloc, link, lane, expect, line)?;
         let Ok(octets) = vec![in alloc; 0u64; size] else {
             return Err(NoMemory);
         };
@@ -113,7 +119,8 @@ impl LanePair {
     /// The report of the receiver end.
     pub fn report(&self) -> LaneReport
         ensures { (s : Plan) (lane : ℕ) (x : LaneRun) → HasRunLane self.now.lane s lane x
-            → result ≡ (kind_of s.link.params).report s.link.params s.link.timing lane x.taken }
+            → result ≡ (kind_of s.link.params).report s.link.params s.link.timing (route_of s lane)
+            x.taken }
     {
         self.lane.report()
     }
@@ -165,6 +172,17 @@ impl LanePair {
         ensures rest { KeepsRest self.old self.new }
     {
         self.lane.set_dead(dead);
+    }
+
+    /// From the next tick on all bits that the receiver lane takes are inverted, or none.
+    pub fn set_inverted(&mut self, on: bool)
+        ensures goes_on { (s : Plan) (lane : ℕ) (x : LaneRun) → HasRunLane self.old.lane s lane x
+            → HasRunLane self.new.lane s lane (record x { inverted = on }) }
+        ensures tx { self.new.lane.tx ≡ self.old.lane.tx }
+        ensures rx { self.new.lane.rx ≡ self.old.lane.rx }
+        ensures rest { KeepsRest self.old self.new }
+    {
+        self.lane.set_inverted(on);
     }
 
     // Each tick of a segment.

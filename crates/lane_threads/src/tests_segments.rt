@@ -77,7 +77,7 @@ fn open_lane(alloc: Global, link: &Link, lane: u32, steps: &[Step]) -> Result<La
         return Err(NoMemory);
     }
     let line = open_line(alloc, link, Vec::new(alloc))?;
-    let (lane, _) = LanePair::open(alloc, link, lane, line, 100)?;
+    let (lane, _) = LanePair::open(alloc, link, lane, lane, line, 100)?;
     Ok(lane)
 }
 

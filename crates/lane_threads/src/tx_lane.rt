@@ -36,6 +36,16 @@ impl TxLane {
         }
     }
 
+    /// The bits of a tick: 10 or 66.
+    pub fn width(&self) -> u32
+        ensures { result ≡ tx_width self.now }
+    {
+        match self {
+            TxLane::B(_) => 10,
+            TxLane::C(_) => 66,
+        }
+    }
+
     /// A reset.
     pub fn clear(&mut self)
         ensures sent { (p : ParamsValue) (lane : ℕ) (handed : List Handed)

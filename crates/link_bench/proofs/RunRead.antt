@@ -49,6 +49,8 @@ legal-read plan legal = record {
   timing = legal.timing;
   events = legal.events;
   jitters = legal.jitters;
+  wire = legal.wire;
+  route = legal.route;
   frames = λ n. record { whole = legal.size n; below = λ r inside. legal.words n r };
 }
 
@@ -72,6 +74,8 @@ scenario-read s plan is laws timing =
       timing = timing;
       events = rw (facts.events, facts.ticks, same) s.events_fit;
       jitters = rw facts.jitters s.jitters_fit;
+      wire = rw (facts.wire, same) s.wire_lanes;
+      route = rw (facts.route, same) s.route_lanes;
       frames = λ n. record {
         whole = frame-size plan n;
         below = λ r inside. fits s plan plan.link.params n r _ is (sym same) refl;

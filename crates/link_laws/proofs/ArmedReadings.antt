@@ -31,6 +31,7 @@ use Rattle.lane_b.proofs.SearchLemmas.{bits_to_start-inside, length-bits_taken}
 use Rattle.scenario.specs.Plans.{Plan}
 use Rattle.link_model.specs.Edges.{is_reset}
 use Rattle.link_model.specs.Sessions.{InSession, at, first_tick, report_at, taken_at}
+use Rattle.link_model.specs.Wiring.{route_of, wire_of}
 use Rattle.link_laws.specs.Premises.{Clean}
 use Rattle.link_laws.specs.Laws.{IsPlanRead}
 use Rattle.link_laws.proofs.PlanRead.{arrival-below, has-edges, numbers, reset-none}
@@ -44,6 +45,7 @@ use Rattle.link_laws.proofs.CleanLine.{arrival-is, bits-are, delay, first, goes-
 use Rattle.link_laws.proofs.Grid.{IsOnGrid, on-grid}
 use Rattle.link_laws.proofs.HeldLock.{IsHeld, and_neither, search-all}
 use Rattle.link_laws.proofs.LaneTicks.{are-tens, armed-locked, length-took, order-is, report-is}
+use Rattle.link_laws.proofs.SetAsWired.{wired}
 
 never-empty : (cs : List Char) (c : Char) → is_empty (map Read (cs ++ c ∷ [])) ≡ false
 never-empty [] c = refl
@@ -116,7 +118,7 @@ module _ (s : Plan) (lane : ℕ) (read : IsPlanRead s) (mode : s.link.params.mod
 
   -- ---- the lock at the arming
 
-  report-locked : report_of s.link.params lane (taken A) (lock (taken A))
+  report-locked : report_of s.link.params (route_of s lane) (taken A) (lock (taken A))
       ≡ report_at lanes_b s lane A
   unfolding report_b
   report-locked = sym (report-is s lane A below)
@@ -130,8 +132,8 @@ module _ (s : Plan) (lane : ℕ) (read : IsPlanRead s) (mode : s.link.params.mod
         | inr seeking ↦
             let is = armed-locked s A lane arms below in
             absurd
-            (locked-some s lane (taken A)
-            (sym (ap (λ o. (report_of s.link.params lane (taken A) o).locked) seeking.is)
+            (locked-some s (route_of s lane) (taken A)
+            (sym (ap (λ o. (report_of s.link.params (route_of s lane) (taken A) o).locked) seeking.is)
             ∙ ap (λ (r : LaneReport). r.locked) report-locked ∙ is))
       ]
 
@@ -186,13 +188,13 @@ module _ (s : Plan) (lane : ℕ) (read : IsPlanRead s) (mode : s.link.params.mod
   fourth = grid.tick
 
   abbrev w_at : ℕ → ℕ
-  w_at n = word_sent s lane read mode below n
+  w_at n = word_sent s (wire_of s lane) read mode (wired s lane read below) n
 
   abbrev c_at : ℕ → Char
-  c_at n = char_sent s lane read mode below n
+  c_at n = char_sent s (wire_of s lane) read mode (wired s lane read below) n
 
   abbrev words_since : ℕ → List ℕ
-  words_since n = drop fourth (words_to s lane read mode below n)
+  words_since n = drop fourth (words_to s (wire_of s lane) read mode (wired s lane read below) n)
 
   -- what the lane has read once the word before tick n came
   abbrev pub read_to : ℕ → List Reading
@@ -203,9 +205,9 @@ module _ (s : Plan) (lane : ℕ) (read : IsPlanRead s) (mode : s.link.params.mod
 
   words_since-suc : (n : ℕ) → fourth ≤ n → words_since (suc n) ≡ words_since n ++ w_at n ∷ []
   words_since-suc n from =
-      let long = length-words_to s lane read mode below n in
-      ap (drop fourth) (words_to-suc s lane read mode below n)
-      ∙ drop-append-le fourth (words_to s lane read mode below n) (w_at n ∷ []) (omega arith)
+      let long = length-words_to s (wire_of s lane) read mode (wired s lane read below) n in
+      ap (drop fourth) (words_to-suc s (wire_of s lane) read mode (wired s lane read below) n)
+      ∙ drop-append-le fourth (words_to s (wire_of s lane) read mode (wired s lane read below) n) (w_at n ∷ []) (omega arith)
 
   rd_to-suc : (n : ℕ) → fourth ≤ n → rd_to (suc n) ≡ after (rd_to n) (w_at n)
   unfolding rd_after
@@ -216,8 +218,8 @@ module _ (s : Plan) (lane : ℕ) (read : IsPlanRead s) (mode : s.link.params.mod
       ∷ []
   unfolding readings
   read_to-suc n from =
-      let long = length-words_to s lane read mode below n in
-      let rest = length-drop fourth (words_to s lane read mode below n) in
+      let long = length-words_to s (wire_of s lane) read mode (wired s lane read below) n in
+      let rest = length-drop fourth (words_to s (wire_of s lane) read mode (wired s lane read below) n) in
       let count = length-readings (words_since n) Minus in
       ap (λ ws. drop 1 (readings Minus ws)) (words_since-suc n (omega arith))
       ∙ ap (drop 1) (readings-append (words_since n) Minus (w_at n ∷ []))
@@ -226,8 +228,8 @@ module _ (s : Plan) (lane : ℕ) (read : IsPlanRead s) (mode : s.link.params.mod
 
   pub length-read_to : (n : ℕ) → fourth < n → length (read_to n) ≡ n - fourth - 1
   length-read_to n from =
-      let long = length-words_to s lane read mode below n in
-      let rest = length-drop fourth (words_to s lane read mode below n) in
+      let long = length-words_to s (wire_of s lane) read mode (wired s lane read below) n in
+      let rest = length-drop fourth (words_to s (wire_of s lane) read mode (wired s lane read below) n) in
       let count = length-readings (words_since n) Minus in
       length-drop 1 (readings Minus (words_since n)) ∙ omega arith
 
@@ -259,11 +261,11 @@ module _ (s : Plan) (lane : ℕ) (read : IsPlanRead s) (mode : s.link.params.mod
 
   pub comma-char : (n : ℕ) → (at lanes_b s n).order ≡ Comma → c_at n ≡ Control 0xBC
   comma-char n e =
-      ap (char_of s.link.params lane (handed_by s lane read mode below n
-      ++ handed_at s lane read mode below n ∷ [])) e
+      ap (char_of s.link.params (wire_of s lane) (handed_by s (wire_of s lane) read mode (wired s lane read below) n
+      ++ handed_at s (wire_of s lane) read mode (wired s lane read below) n ∷ [])) e
 
   -- the lane's disparity is the transmitter's
-  rd-same : (k : ℕ) → next + k ≤ t → rd_to (next + k) ≡ rd_sent s lane read mode below (next + k)
+  rd-same : (k : ℕ) → next + k ≤ t → rd_to (next + k) ≡ rd_sent s (wire_of s lane) read mode (wired s lane read below) (next + k)
   rd-same zero upto =
       let l = is-late in
       let far = l.far in
@@ -274,13 +276,13 @@ module _ (s : Plan) (lane : ℕ) (read : IsPlanRead s) (mode : s.link.params.mod
       let n : ℕ = A - a in
       let e : next + 0 ≡ suc n = omega arith in
       let char = comma-char n (sends-comma n (omega arith) (omega arith)) in
-      let spelled = ap (spelling (rd_sent s lane read mode below n)) (sym char)
-      ∙ spells s lane read mode below n in
+      let spelled = ap (spelling (rd_sent s (wire_of s lane) read mode (wired s lane read below) n)) (sym char)
+      ∙ spells s (wire_of s lane) read mode (wired s lane read below) n in
       ap rd_to e ∙ rd_to-suc n (omega arith)
-      ∙ comma-after (rd_sent s lane read mode below n) (w_at n) spelled (rd_to n)
-      (rd_sent s lane read mode below n)
-      ∙ sym (rd-next s lane read mode below n (quiet (suc n) (omega arith) (omega arith)))
-      ∙ sym (ap (λ q. rd_sent s lane read mode below q) e)
+      ∙ comma-after (rd_sent s (wire_of s lane) read mode (wired s lane read below) n) (w_at n) spelled (rd_to n)
+      (rd_sent s (wire_of s lane) read mode (wired s lane read below) n)
+      ∙ sym (rd-next s (wire_of s lane) read mode (wired s lane read below) n (quiet (suc n) (omega arith) (omega arith)))
+      ∙ sym (ap (λ q. rd_sent s (wire_of s lane) read mode (wired s lane read below) q) e)
   rd-same (suc k) upto =
       let l = is-late in
       let far = l.far in
@@ -291,8 +293,8 @@ module _ (s : Plan) (lane : ℕ) (read : IsPlanRead s) (mode : s.link.params.mod
       let e : next + suc k ≡ suc n = omega arith in
       ap rd_to e ∙ rd_to-suc n (omega arith)
       ∙ ap (λ rd. after rd (w_at n)) (rd-same k (omega arith))
-      ∙ sym (rd-next s lane read mode below n (quiet (suc n) (omega arith) (omega arith)))
-      ∙ sym (ap (λ q. rd_sent s lane read mode below q) e)
+      ∙ sym (rd-next s (wire_of s lane) read mode (wired s lane read below) n (quiet (suc n) (omega arith) (omega arith)))
+      ∙ sym (ap (λ q. rd_sent s (wire_of s lane) read mode (wired s lane read below) q) e)
 
   -- each word is read as the character that was sent
   pub read-sent : (n : ℕ) → next ≤ n → n ≤ t → read_to (suc n) ≡ read_to n ++ Read (c_at n) ∷ []
@@ -301,11 +303,11 @@ module _ (s : Plan) (lane : ℕ) (read : IsPlanRead s) (mode : s.link.params.mod
       let inside = g.inside in
       let k : ℕ = n - next in
       let e : next + k ≡ n = omega arith in
-      let same : rd_to n ≡ rd_sent s lane read mode below n = ap rd_to (sym e)
-      ∙ rd-same k (omega arith) ∙ ap (λ q. rd_sent s lane read mode below q) e in
+      let same : rd_to n ≡ rd_sent s (wire_of s lane) read mode (wired s lane read below) n = ap rd_to (sym e)
+      ∙ rd-same k (omega arith) ∙ ap (λ q. rd_sent s (wire_of s lane) read mode (wired s lane read below) q) e in
       let reads =
-      (reads_spelling (rd_sent s lane read mode below n) (w_at n) (c_at n)
-      (word-small s lane read mode below n)).0 (spells s lane read mode below n) in
+      (reads_spelling (rd_sent s (wire_of s lane) read mode (wired s lane read below) n) (w_at n) (c_at n)
+      (word-small s (wire_of s lane) read mode (wired s lane read below) n)).0 (spells s (wire_of s lane) read mode (wired s lane read below) n) in
       read_to-suc n (omega arith)
       ∙ ap (λ r. read_to n ++ r ∷ []) (ap (λ rd. reading rd (w_at n)) same ∙ reads)
 

@@ -15,12 +15,14 @@ use Rattle.line_model.specs.LineBits.{line_word}
 use Rattle.lane_b.specs.Locking.{bits_taken, words_in}
 use Rattle.lane_b.specs.Received.{lanes_b}
 use Rattle.scenario.specs.Plans.{Plan, numbers_from}
-use Rattle.link_model.specs.Carried.{delay_at, inverted_bits, is_dead, is_inverted, received}
+use Rattle.link_model.specs.Carried.{delay_at, inverted_bits, is_dead, is_inverted, received, with_polarity}
 use Rattle.link_model.specs.Run.{run}
 use Rattle.link_model.specs.Sends.{sent_bits}
 use Rattle.link_model.specs.Receives.{taken_in}
+use Rattle.link_model.proofs.Depth.{word-size}
 use Rattle.link_model.proofs.LaneHistory.{sent-bits-more, taken-in-more, taken-lane}
 use Rattle.link_model.specs.Sessions.{InSession, at, first_tick, taken_at}
+use Rattle.link_model.specs.Wiring.{wire_of}
 use Rattle.link_laws.specs.Premises.{Clean, arrival}
 use Rattle.link_laws.specs.Laws.{IsPlanRead}
 use Rattle.link_model.proofs.RunTicks.{length-run, run-suc}
@@ -29,7 +31,8 @@ use Rattle.link_laws.proofs.SessionTicks.{session-with}
 use Rattle.link_laws.proofs.PlanRead.{delay-same}
 use Rattle.link_laws.proofs.ReleaseTick.{goes}
 use Rattle.link_laws.proofs.LineTicks.{are-words, are_words-drop, drop-word_bits, length-word_bits, length-words_to, none-of, sent-words, words_in-are, words_to, words_to-more}
-use Rattle.link_laws.proofs.LineWords.{flipped-filter, length-line, length-word, line, word-carried}
+use Rattle.link_laws.proofs.LineWords.{flipped-filter, length-line, line, word-carried}
+use Rattle.link_laws.proofs.SetAsWired.{wired}
 
 -- all bits that a lane took in the session of tick t, up to it
 abbrev pub bits_at : LaneKind → Plan → ℕ → ℕ → List Bool
@@ -46,15 +49,15 @@ module _ (s : Plan) (lane : ℕ) (read : IsPlanRead s) (mode : s.link.params.mod
   delay = delay_at s lane h
 
   abbrev pub line_to : ℕ → List Bool
-  line_to n = line delay (sent_bits (run lanes_b s n) lane)
+  line_to n = line delay (sent_bits (run lanes_b s n) (wire_of s lane))
 
   ten : width s.link.params ≡ 10
   ten = let b : is_b s.link.params.mode ≡ true = ap is_b mode in rw b refl
 
-  length-sent : (n : ℕ) → length (sent_bits (run lanes_b s n) lane) ≡ 10 * n
-  length-sent n = ap length (sent-words s lane read mode below n)
-      ∙ length-word_bits (words_to s lane read mode below n)
-      ∙ ap (λ (k : ℕ). 10 * k) (length-words_to s lane read mode below n)
+  length-sent : (n : ℕ) → length (sent_bits (run lanes_b s n) (wire_of s lane)) ≡ 10 * n
+  length-sent n = ap length (sent-words s (wire_of s lane) read mode (wired s lane read below) n)
+      ∙ length-word_bits (words_to s (wire_of s lane) read mode (wired s lane read below) n)
+      ∙ ap (λ (k : ℕ). 10 * k) (length-words_to s (wire_of s lane) read mode (wired s lane read below) n)
 
   -- no bit of a tick is inverted
   upright : (y i : ℕ) → h < y → y ≤ t → 10 * y ≤ i → i < 10 * y + 10 → delay_at s lane y ≤ i
@@ -83,11 +86,11 @@ module _ (s : Plan) (lane : ℕ) (read : IsPlanRead s) (mode : s.link.params.mod
       → get_or (at lanes_b s y).taken lane [] ≡ take 10 (drop (10 * y) (line_to (suc y)))
   unfolding received inverted_bits
   word-taken y above up =
-      let sent : List Bool = sent_bits (run lanes_b s y) lane
-      ++ get_or (at lanes_b s y).sent lane [] in
-      let all : sent ≡ sent_bits (run lanes_b s (suc y)) lane =
-      sym (ap (λ r. sent_bits r lane) (run-suc lanes_b s y)
-      ∙ sent-bits-more (run lanes_b s y) (at lanes_b s y) lane) in
+      let sent : List Bool = sent_bits (run lanes_b s y) (wire_of s lane)
+      ++ get_or (at lanes_b s y).sent (wire_of s lane) [] in
+      let all : sent ≡ sent_bits (run lanes_b s (suc y)) (wire_of s lane) =
+      sym (ap (λ r. sent_bits r (wire_of s lane)) (run-suc lanes_b s y)
+      ∙ sent-bits-more (run lanes_b s y) (at lanes_b s y) (wire_of s lane)) in
       let long : length sent ≡ 10 * suc y = ap length all ∙ length-sent (suc y) in
       let tick = length-run lanes_b s y in
       let same = delay-stays y (omega arith) up in
@@ -95,6 +98,9 @@ module _ (s : Plan) (lane : ℕ) (read : IsPlanRead s) (mode : s.link.params.mod
       let front : length sent - 10 ≡ 10 * y = omega arith in
       taken-lane lanes_b s (run lanes_b s y) lane below
       ∙ ap (λ (n : ℕ). received s lane n sent) tick
+      ∙ ap (λ (b : Bool). with_polarity b
+      (line_word (width s.link.params) sent flips (delay_at s lane y) (is_dead s lane y)))
+      (clean.set_as_wired.polarity lane below)
       ∙ ap (λ (w : ℕ). line_word w sent flips (delay_at s lane y) (is_dead s lane y)) ten
       ∙ ap₂ (λ (d : ℕ) (b : Bool). line_word 10 sent flips d b) same (alive y above up)
       ∙ word-carried 10 sent flips delay (omega arith)
@@ -107,15 +113,15 @@ module _ (s : Plan) (lane : ℕ) (read : IsPlanRead s) (mode : s.link.params.mod
 
   line-suc : (n : ℕ) → (more : List Bool) × (line_to (suc n) ≡ line_to n ++ more)
   line-suc n =
-      let m : List Bool = get_or (at lanes_b s n).sent lane [] in (
+      let m : List Bool = get_or (at lanes_b s n).sent (wire_of s lane) [] in (
         m,
-        ap (line delay) (ap (λ r. sent_bits r lane) (run-suc lanes_b s n)
-            ∙ sent-bits-more (run lanes_b s n) (at lanes_b s n) lane)
-            ∙ sym (append_assoc (replicate delay false) (sent_bits (run lanes_b s n) lane) m),
+        ap (line delay) (ap (λ r. sent_bits r (wire_of s lane)) (run-suc lanes_b s n)
+            ∙ sent-bits-more (run lanes_b s n) (at lanes_b s n) (wire_of s lane))
+            ∙ sym (append_assoc (replicate delay false) (sent_bits (run lanes_b s n) (wire_of s lane)) m),
       )
 
   length-line_to : (n : ℕ) → length (line_to n) ≡ delay + 10 * n
-  length-line_to n = length-line delay (sent_bits (run lanes_b s n) lane)
+  length-line_to n = length-line delay (sent_bits (run lanes_b s n) (wire_of s lane))
       ∙ ap (λ (k : ℕ). delay + k) (length-sent n)
 
   abbrev pub first : ℕ
@@ -139,15 +145,7 @@ module _ (s : Plan) (lane : ℕ) (read : IsPlanRead s) (mode : s.link.params.mod
       ∙ ap (λ (l : List Bool). taken_before v ++ l) (append-nil here)
 
   pub length-word_taken : (v : ℕ) → length (get_or (at lanes_b s v).taken lane []) ≡ 10
-  unfolding received
-  length-word_taken v =
-      let sent : List Bool = sent_bits (run lanes_b s v) lane
-      ++ get_or (at lanes_b s v).sent lane [] in
-      let tick : ℕ = length (run lanes_b s v) in
-      ap length (taken-lane lanes_b s (run lanes_b s v) lane below)
-      ∙ length-word (width s.link.params) sent
-      (inverted_bits s lane (width s.link.params * s.ticks)) (delay_at s lane tick)
-      (is_dead s lane tick) ∙ ten
+  length-word_taken v = word-size lanes_b s (run lanes_b s v) lane below ∙ ten
 
   pub length-taken : (v : ℕ) → v ≤ suc t → length (taken_before v) ≡ 10 * (v - first)
   length-taken zero up = let e : 10 * (0 - first) ≡ 0 = omega arith in
@@ -211,7 +209,7 @@ module _ (s : Plan) (lane : ℕ) (read : IsPlanRead s) (mode : s.link.params.mod
   arrival-is = ap (λ (w : ℕ). (delay + (w - 1)) / w) ten
 
   abbrev words : ℕ → List ℕ
-  words n = words_to s lane read mode below n
+  words n = words_to s (wire_of s lane) read mode (wired s lane read below) n
 
   -- from a bit on that begins a word of tick q they are the words of q and the ticks after it, and
   -- less than ten bits
@@ -237,20 +235,20 @@ module _ (s : Plan) (lane : ℕ) (read : IsPlanRead s) (mode : s.link.params.mod
       let in_k : e + m ≡ 10 * k = omega arith in
       let at_q : 10 * suc h + e ≡ length (replicate delay false) + 10 * q =
       (let l = length-replicate delay false in omega arith) in
-      let more = words_to-more s lane read mode below n late in
-      let sent : List Bool = sent_bits (run lanes_b s (suc u)) lane in
+      let more = words_to-more s (wire_of s lane) read mode (wired s lane read below) n late in
+      let sent : List Bool = sent_bits (run lanes_b s (suc u)) (wire_of s lane) in
       let own : List Bool = flat_map (bits 10) (drop q (words n)) in
       let later : List Bool = flat_map (bits 10) more.0 in
       let size : length own ≡ 10 * (n - q) = (let a = length-word_bits (drop q (words n)) in
       let b = length-drop q (words n) in
-      let c = length-words_to s lane read mode below n in omega arith) in
+      let c = length-words_to s (wire_of s lane) read mode (wired s lane read below) n in omega arith) in
       let take_own : m ≡ length own + r = omega arith in
       let split : drop (10 * q) sent ≡ own ++ later =
-      ap (drop (10 * q)) (sent-words s lane read mode below (suc u))
+      ap (drop (10 * q)) (sent-words s (wire_of s lane) read mode (wired s lane read below) (suc u))
       ∙ drop-word_bits q (words (suc u))
       ∙ ap (λ ws. flat_map (bits 10) (drop q ws)) (ap words (sym end_words) ∙ more.1)
       ∙ ap (flat_map (bits 10))
-      (drop-append-le q (words n) more.0 (let c = length-words_to s lane read mode below n in
+      (drop-append-le q (words n) more.0 (let c = length-words_to s (wire_of s lane) read mode (wired s lane read below) n in
       omega arith))
       ∙ flat_map-append (bits 10) (drop q (words n)) more.0 in
       let line_is : drop e (drop (10 * suc h) (line_to (suc u))) ≡ own ++ later =
@@ -283,7 +281,7 @@ module _ (s : Plan) (lane : ℕ) (read : IsPlanRead s) (mode : s.link.params.mod
       let k = are-sent u x q low up from is inside in
       ap (λ bs. words_in (drop x bs)) (bits-are u begun up) ∙ ap words_in k.are
       ∙ words_in-are (drop q (words (suc u - late))) k.rest
-      (are_words-drop (words (suc u - late)) q (are-words s lane read mode below (suc u - late)))
+      (are_words-drop (words (suc u - late)) q (are-words s (wire_of s lane) read mode (wired s lane read below) (suc u - late)))
       k.few
 
   -- each bit from the tick after the hunt on is the line's

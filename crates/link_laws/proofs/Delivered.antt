@@ -17,6 +17,8 @@ use Rattle.link_model.specs.Hunts.{session}
 use Rattle.link_model.specs.Receives.{taken_in, told_of}
 use Rattle.link_model.proofs.NumberLists.{get_or-numbers, length-numbers, map-numbers}
 use Rattle.link_model.specs.Sessions.{at, entries_at, taken_at}
+use Rattle.link_model.specs.Wiring.{by_frame, lane_for, route_of}
+use Rattle.link_model.proofs.Wirings.{by-frame-map}
 use Rattle.link_laws.proofs.RunTicks.{told-at}
 use Rattle.link_model.proofs.RunTicks.{length-run}
 use Rattle.link_laws.proofs.OrdersGo.{ilas_ticks}
@@ -32,48 +34,45 @@ took-is kind s t lane =
     ∙ ap (λ o. taken_in (session s (run kind s t)) lane
     ++ (record { order = o; word = get_or (at kind s t).taken lane [] }) ∷ []) (told-at kind s t)
 
--- all entries of the lanes in tick t
+-- all entries for the lanes of the frame in tick t
 abbrev pub lanes_entries : LaneKind → Plan → ℕ → List (List Entry)
-lanes_entries kind s t = map (λ lane. entries_at kind s lane t) (numbers_from 0 s.link.params.l)
+lanes_entries kind s t =
+    map (λ place. entries_at kind s (lane_for s place) t) (numbers_from 0 s.link.params.l)
+
+-- the entries of a lane, as the tick has them
+abbrev entries_in : LaneKind → Plan → ℕ → ℕ → List Entry
+entries_in kind s t lane = kind.entries s.link.params s.link.timing (route_of s lane)
+    (taken_in (session s (run kind s t)) lane
+    ++ (record { order = told_of s (run kind s t); word = get_or (at kind s t).taken lane [] })
+    ∷ [])
 
 delivered-is : (kind : LaneKind) (s : Plan) (t : ℕ) → is_running (at kind s t).stage ≡ true
     → (at kind s t).delivered
     ≡ frames_given s.link.params (length (run kind s t) - gives_in (session s (run kind s t)))
     (gives_in (session s (run kind s t)))
-    (map (λ lane. kind.entries s.link.params s.link.timing lane
-    (taken_in (session s (run kind s t)) lane
-    ++ (record { order = told_of s (run kind s t); word = get_or (at kind s t).taken lane [] })
-    ∷ [])) (numbers_from 0 s.link.params.l))
+    (by_frame s [] (map (entries_in kind s t) (numbers_from 0 s.link.params.l)))
 unfolding moment
 delivered-is kind s t runs =
     cond-true (is_running (at kind s t).stage)
     (frames_given s.link.params (length (run kind s t) - gives_in (session s (run kind s t)))
     (gives_in (session s (run kind s t)))
-    (map (λ lane. kind.entries s.link.params s.link.timing lane
-    (taken_in (session s (run kind s t)) lane
-    ++ (record { order = told_of s (run kind s t); word = get_or (at kind s t).taken lane [] })
-    ∷ [])) (numbers_from 0 s.link.params.l))) [] runs
+    (by_frame s [] (map (entries_in kind s t) (numbers_from 0 s.link.params.l)))) [] runs
 
 -- the frames of tick t, where n entries were given before it
-pub delivered-tick : (kind : LaneKind) (s : Plan) (t n : ℕ) → is_running (at kind s t).stage ≡ true
-    → gives_in (session s (run kind s t)) ≡ n
+pub delivered-tick : (kind : LaneKind) (s : Plan) (t n : ℕ) → 0 < s.link.params.l
+    → is_running (at kind s t).stage ≡ true → gives_in (session s (run kind s t)) ≡ n
     → (at kind s t).delivered ≡ frames_given s.link.params (t - n) n (lanes_entries kind s t)
-delivered-tick kind s t n runs gave =
+delivered-tick kind s t n some runs gave =
     delivered-is kind s t runs
     ∙ ap₂ (λ (u k : ℕ). frames_given s.link.params (u - k) k
-    (map (λ lane. kind.entries s.link.params s.link.timing lane
-    (taken_in (session s (run kind s t)) lane
-    ++ (record { order = told_of s (run kind s t); word = get_or (at kind s t).taken lane [] })
-    ∷ [])) (numbers_from 0 s.link.params.l)))
+    (by_frame s [] (map (entries_in kind s t) (numbers_from 0 s.link.params.l))))
     (length-run kind s t) gave
     ∙ ap (frames_given s.link.params (t - n) n)
-    (map-numbers
-    (λ lane. kind.entries s.link.params s.link.timing lane (taken_in (session s (run kind s t)) lane
-    ++ (record { order = told_of s (run kind s t); word = get_or (at kind s t).taken lane [] })
-    ∷ []))
-    (λ lane. entries_at kind s lane t) s.link.params.l 0
-    (λ lane below. ap (kind.entries s.link.params s.link.timing lane)
-    (sym (took-is kind s t lane))))
+    (by-frame-map (entries_in kind s t) s [] some
+    ∙ map-numbers (λ place. entries_in kind s t (lane_for s place))
+    (λ place. entries_at kind s (lane_for s place) t) s.link.params.l 0
+    (λ place below. ap (kind.entries s.link.params s.link.timing (route_of s (lane_for s place)))
+    (sym (took-is kind s t (lane_for s place)))))
 
 -- ---- entries and octets
 
@@ -216,7 +215,8 @@ frames_to p n = octets_per_tick p * (n - ilas_ticks p) / p.f
 -- before on
 pub delivered-numbers : (kind : LaneKind) (s : Plan) (t n : ℕ) → 0 < s.link.params.l
     → is_running (at kind s t).stage ≡ true → gives_in (session s (run kind s t)) ≡ n
-    → ((j : ℕ) → j < suc n → (e : Entry) × (slice_get (entries_at kind s 0 t) j ≡ Some e)
+    → ((j : ℕ) → j < suc n → (e : Entry)
+    × (slice_get (entries_at kind s (lane_for s 0) t) j ≡ Some e)
     × IsShaped s.link.params j e)
     → (at kind s t).delivered
     ≡ map (frame_given s.link.params
@@ -230,19 +230,21 @@ delivered-numbers kind s t n some runs gave shaped =
     let all : List (List Entry) = lanes_entries kind s t in
     let long = length-numbers p.l 0 in
     let zero_lane : 0 + 0 ≡ 0 = omega arith in
-    let first : get_or all 0 [] ≡ entries_at kind s 0 t =
-    get_or-map (λ lane. entries_at kind s lane t) (numbers_from 0 p.l) 0 0 [] (omega arith)
-    ∙ ap (λ lane. entries_at kind s lane t) (get_or-numbers p.l 0 0 0 some ∙ zero_lane) in
+    let first : get_or all 0 [] ≡ entries_at kind s (lane_for s 0) t =
+    get_or-map (λ place. entries_at kind s (lane_for s place) t) (numbers_from 0 p.l) 0 0 []
+    (omega arith)
+    ∙ ap (λ place. entries_at kind s (lane_for s place) t)
+    (get_or-numbers p.l 0 0 0 some ∙ zero_lane) in
     let one_more : n + 1 ≡ suc n = omega arith in
     let before : frames_in p n (get_or all 0 []) ≡ frames_to p n =
     ap (frames_in p n) first
     ∙ ap (λ (k : ℕ). k / p.f)
-    (count-octets n p (entries_at kind s 0 t) (λ j below. shaped j (omega arith))) in
+    (count-octets n p (entries_at kind s (lane_for s 0) t) (λ j below. shaped j (omega arith))) in
     let now : frames_in p (n + 1) (get_or all 0 []) ≡ frames_to p (n + 1) =
     ap (frames_in p (n + 1)) first
     ∙ ap (λ (k : ℕ). k / p.f)
-    (count-octets (n + 1) p (entries_at kind s 0 t) (λ j below. shaped j (omega arith))) in
+    (count-octets (n + 1) p (entries_at kind s (lane_for s 0) t) (λ j below. shaped j (omega arith))) in
     let from : ℕ = octets_per_tick p * (t - n) + ilas_ticks p in
-    delivered-tick kind s t n runs gave
+    delivered-tick kind s t n some runs gave
     ∙ ap₂ (λ (a b : ℕ). map (frame_given p from (map (octets_given p (n + 1)) all))
     (numbers_from a (b - a))) before now

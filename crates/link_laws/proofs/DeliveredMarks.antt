@@ -26,6 +26,8 @@ use Rattle.link_model.proofs.NumberLists.{length-numbers}
 use Rattle.link_laws.specs.Checked.{Checks, checked_frame}
 use Rattle.link_laws.specs.Laws.{Marks, delivered_before}
 use Rattle.link_model.specs.Sessions.{at, entries_at, taken_at}
+use Rattle.link_model.specs.Wiring.{lane_for}
+use Rattle.link_model.proofs.Wirings.{lane-for-below}
 use Rattle.link_laws.proofs.Delivered.{IsShaped, delivered-numbers, entry-count, frames_to, lanes_entries, none-given, numbers-split, octets-more, octets_of_entry}
 use Rattle.link_laws.proofs.Gave.{gives-more}
 use Rattle.link_laws.proofs.InOrder.{get-number}
@@ -173,7 +175,9 @@ module _ (kind : LaneKind) (checks : Checks) (s : Plan) (lanes : 0 < s.link.para
       (frames_to s.link.params (gave t + 1) - frames_to s.link.params (gave t)))
   delivered-are t runs =
       delivered-numbers kind s t (gave t) lanes runs refl
-      (λ j below. let e = marked t 0 j lanes runs below in (e.entry, e.found, e.shaped))
+      (λ j below.
+      let e = marked t (lane_for s 0) j (lane-for-below s 0 lanes) runs below in
+      (e.entry, e.found, e.shaped))
 
   delivered-count : (t : ℕ)
       → length (at kind s t).delivered ≡ frames_to s.link.params
@@ -240,26 +244,28 @@ module _ (kind : LaneKind) (checks : Checks) (s : Plan) (lanes : 0 < s.link.para
   frame-mark : (t q : ℕ) → is_running (at kind s t).stage ≡ true
       → q < frames_to s.link.params (gave t + 1)
       → fold worse Good (map (λ (c : LaneCell). c.mark) (frame_cells s.link.params q (given t)))
-      ≡ checked_frame checks s.link.params (λ lane. taken_at kind s lane t) q
+      ≡ checked_frame checks s.link.params (λ place. taken_at kind s (lane_for s place) t) q
   frame-mark t q runs below =
       let p = s.link.params in
       let n : ℕ = octets_per_tick p * (gave t + 1 - ilas_ticks p) in
       let cells : ℕ → List LaneCell =
-      λ lane. octets_given p (gave t + 1) (entries_at kind s lane t) in
+      λ place. octets_given p (gave t + 1) (entries_at kind s (lane_for s place) t) in
       let whole = div-mul-le_self n p.f in
       let up : (q + 1) * p.f ≤ frames_to p (gave t + 1) * p.f =
       mul-le-mul_right p.f (let le : q + 1 ≤ frames_to p (gave t + 1) = omega arith in le) in
       let within : q * p.f + p.f ≤ n = omega arith in
       ap (λ (os : List (List LaneCell)). fold worse Good
       (map (λ (c : LaneCell). c.mark) (flat_map (part_of_frame p q) os)))
-      (map-map (octets_given p (gave t + 1)) (λ lane. entries_at kind s lane t)
+      (map-map (octets_given p (gave t + 1)) (λ place. entries_at kind s (lane_for s place) t)
       (numbers_from 0 p.l))
       ∙ ap (fold worse Good)
       (parts-marked p.l 0 (part_of_frame p q) cells
-      (λ lane. map (checks p (taken_at kind s lane t)) (numbers_from (q * p.f) p.f))
-      (λ lane of_link. part-marked p q n (cells lane) (checks p (taken_at kind s lane t)) within
+      (λ place. map (checks p (taken_at kind s (lane_for s place) t)) (numbers_from (q * p.f) p.f))
+      (λ place of_link.
+      let lane : ℕ = lane_for s place in
+      part-marked p q n (cells place) (checks p (taken_at kind s lane t)) within
       (octets-marked (gave t + 1) p (entries_at kind s lane t) (checks p (taken_at kind s lane t))
-      (λ j inside. marked t lane j (omega arith) runs (omega arith)))))
+      (λ j inside. marked t lane j (lane-for-below s place lanes) runs (omega arith)))))
 
   pub marks-hold : Marks kind checks s
   marks-hold t k d in_run is = elim (cases_Bool (is_running (at kind s t).stage)) [
@@ -284,5 +290,5 @@ module _ (kind : LaneKind) (checks : Checks) (s : Plan) (lanes : 0 < s.link.para
         let before = count-before t in
         let number : first + k ≡ delivered_before kind s t + k = omega arith in
         ap (λ (x : Delivered). x.mark) (sym same) ∙ frame-mark t (first + k) runs (omega arith)
-        ∙ ap (checked_frame checks p (λ lane. taken_at kind s lane t)) number
+        ∙ ap (checked_frame checks p (λ place. taken_at kind s (lane_for s place) t)) number
   ]

@@ -32,6 +32,7 @@ untouched-earlier s h t u low c =
 
 pub clean-earlier : (s : Plan) (h t u : ℕ) → u ≤ t → Clean s h t → Clean s h u
 clean-earlier s h t u low c = record {
+  set_as_wired = c.set_as_wired;
   untouched = untouched-earlier s h t u low c.untouched;
   upright = λ lane i comes. c.upright lane i (comes.0, let k = comes.1 in omega arith);
 }
@@ -39,6 +40,7 @@ clean-earlier s h t u low c = record {
 burst-earlier : (s : Plan) (h t u : ℕ) → u ≤ t → OneBurst s h t → OneBurst s h u
 burst-earlier s h t u low b = record {
   fec = b.fec;
+  set_as_wired = b.set_as_wired;
   untouched = untouched-earlier s h t u low b.untouched;
   payload = λ lane i comes. b.payload lane i (comes.0, let k = comes.1 in omega arith);
   near = λ lane i j x y one two. b.near lane i j x y (one.0, let k = one.1 in omega arith)

@@ -15,6 +15,8 @@ use Rattle.link_model.specs.Gives.{octets_given, octets_in}
 use Rattle.link_model.specs.Run.{run}
 use Rattle.link_model.proofs.NumberLists.{map-numbers}
 use Rattle.link_model.specs.Sessions.{at, entries_at}
+use Rattle.link_model.specs.Wiring.{wire_of}
+use Rattle.link_laws.proofs.SetAsWired.{wired}
 use Rattle.link_laws.specs.LaneLaws.{IsEntryOf}
 use Rattle.link_laws.specs.Laws.{IsPlanRead}
 use Rattle.link_laws.proofs.OrdersGo.{ilas_ticks}
@@ -141,13 +143,13 @@ module _ (kind : LaneKind) (s : Plan) (h t b : ℕ) (read : IsPlanRead s)
   -- what entry j gives
   pub entry-octets : (lane j : ℕ) → lane < s.link.params.l → b + j ≤ t
       → (e : IsEntryOf kind s h lane t j (b + j))
-      → GivesOctets s.link.params j e.entry (data_octet s (first_of kind s b) lane)
+      → GivesOctets s.link.params j e.entry (data_octet s (first_of kind s b) (wire_of s lane))
   entry-octets lane j below up e =
       let p = s.link.params in
       let n : ℕ = ilas_ticks p in
-      let octet : ℕ → ℕ = data_octet s (first_of kind s b) lane in
+      let octet : ℕ → ℕ = data_octet s (first_of kind s b) (wire_of s lane) in
       let order = (at kind s (b + j)).order in
-      let handed : ℕ = slice_index (at kind s (b + j)).handed lane in
+      let handed : ℕ = slice_index (at kind s (b + j)).handed (wire_of s lane) in
       elim (cases_lt j n) [
         | inl early ↦
             let place = places j up ∙ cond-true (nat_lt j n) None (Some ((j - n) % period p))
@@ -160,21 +162,24 @@ module _ (kind : LaneKind) (s : Plan) (h t b : ℕ) (read : IsPlanRead s)
             (le-ltb j n late) in
             let k = shape-held order handed ((j - n) % period p) e.entry e.carries place in
             let same : b + j ≡ data_tick p b + (j - n) = omega arith in
-            let value : k.0.value ≡ slice_index (at kind s (data_tick p b + (j - n))).handed lane =
-            k.2 ∙ ap (λ (u : ℕ). slice_index (at kind s u).handed lane) same in
+            let value : k.0.value
+            ≡ slice_index (at kind s (data_tick p b + (j - n))).handed (wire_of s lane) =
+            k.2 ∙ ap (λ (u : ℕ). slice_index (at kind s u).handed (wire_of s lane)) same in
             subst (λ (x : Entry). GivesOctets p j x octet) (sym k.1)
             (held-gives p j octet k.0 late
-            (handed-octets lane (j - n) k.0 below (omega arith) value))
+            (handed-octets (wire_of s lane) (j - n) k.0 (wired s lane read below) (omega arith)
+            value))
       ]
 
   -- all octets that a lane gave in n ticks
   pub given-octets : (lane n : ℕ) → lane < s.link.params.l
       → ((j : ℕ) → j < n → (b + j ≤ t) × IsEntryOf kind s h lane t j (b + j))
       → map (λ (c : LaneCell). c.value) (octets_given s.link.params n (entries_at kind s lane t))
-      ≡ map (data_octet s (first_of kind s b) lane)
+      ≡ map (data_octet s (first_of kind s b) (wire_of s lane))
       (numbers_from 0 (octets_per_tick s.link.params * (n - ilas_ticks s.link.params)))
   given-octets lane n below entries =
-      octets-are n s.link.params (entries_at kind s lane t) (data_octet s (first_of kind s b) lane)
+      octets-are n s.link.params (entries_at kind s lane t)
+      (data_octet s (first_of kind s b) (wire_of s lane))
       (λ j inside.
       let e = entries j inside in
       let g = entry-octets lane j below e.0 e.1 in

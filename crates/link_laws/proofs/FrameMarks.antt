@@ -12,6 +12,8 @@ use Rattle.link_params.specs.Numbers.{octets_per_tick}
 use Rattle.scenario.specs.Plans.{Plan, numbers_from}
 use Rattle.link_model.specs.Gives.{frame_cells, octets_given, part_of_frame}
 use Rattle.link_model.specs.Sessions.{entries_at}
+use Rattle.link_model.specs.Wiring.{lane_for}
+use Rattle.link_model.proofs.Wirings.{lane-for-below}
 use Rattle.link_laws.specs.LaneLaws.{IsEntryOf, IsEntryWell, IsMarkedWell}
 use Rattle.link_laws.proofs.Earlier.{clean-earlier}
 use Rattle.link_laws.proofs.Delivered.{lanes_entries, none-given, octets-more, octets_of_entry}
@@ -92,12 +94,14 @@ pub frame-mark : (kind : LaneKind) (s : Plan) (h t k n : ℕ) (sent : ℕ → �
 frame-mark kind s h t k n sent entries =
     let p = s.link.params in
     let part : ℕ → List LaneCell =
-    λ lane. part_of_frame p k (octets_given p n (entries_at kind s lane t)) in
+    λ place. part_of_frame p k (octets_given p n (entries_at kind s (lane_for s place) t)) in
     let well : All (λ (c : LaneCell). IsMarkedWell s h t c.mark)
     (flat_map part (numbers_from 0 p.l)) =
-    all-flat (λ (c : LaneCell). IsMarkedWell s h t c.mark) part p.l 0 (λ lane below.
+    all-flat (λ (c : LaneCell). IsMarkedWell s h t c.mark) part p.l 0 (λ place below.
+    let lane : ℕ = lane_for s place in
+    let of_link = lane-for-below s place (omega arith) in
     let all = octets-well s h t n p (entries_at kind s lane t)
-    (λ j inside. let e = entries lane j (omega arith) inside in (e.entry, e.found, e.well)) in
+    (λ j inside. let e = entries lane j of_link inside in (e.entry, e.found, e.well)) in
     All-take (λ (c : LaneCell). IsMarkedWell s h t c.mark) p.f
     (drop (k * p.f) (octets_given p n (entries_at kind s lane t)))
     (All-drop (λ (c : LaneCell). IsMarkedWell s h t c.mark) (k * p.f)

@@ -17,12 +17,14 @@ use Rattle.link_model.specs.Run.{run}
 use Rattle.link_model.specs.Sends.{sent_bits}
 use Rattle.link_model.proofs.NumberLists.{get_or-numbers, length-numbers}
 use Rattle.link_model.specs.Sessions.{InSession}
+use Rattle.link_model.specs.Wiring.{wire_of}
 use Rattle.link_laws.specs.Premises.{Clean}
 use Rattle.link_laws.specs.Laws.{IsPlanRead}
 use Rattle.link_laws.proofs.SentChars.{char_sent, rd_sent, spells, word_sent}
 use Rattle.link_laws.proofs.SessionStages.{first-low}
 use Rattle.link_laws.proofs.LineTicks.{word-small, words-from, words_to}
 use Rattle.link_laws.proofs.CleanLine.{are-sent, bit-is, delay, first, goes-on, late, length-taken, taken_before}
+use Rattle.link_laws.proofs.SetAsWired.{wired}
 
 -- ---- the forty bits, bit by bit
 
@@ -141,12 +143,12 @@ module _ (s : Plan) (lane : ℕ) (read : IsPlanRead s) (mode : s.link.params.mod
       let begun = first-low lanes_b s h t (goes-on s lane read mode below h t session clean) in
       let k = are-sent s lane read mode below h t session clean u (x + j) q low up (omega arith) is
       (omega arith) in
-      let w : ℕ = word_sent s lane read mode below q in
+      let w : ℕ = word_sent s (wire_of s lane) read mode (wired s lane read below) q in
       let size = bits_length 10 w in
-      let later : List ℕ = drop (suc q) (words_to s lane read mode below n) in
+      let later : List ℕ = drop (suc q) (words_to s (wire_of s lane) read mode (wired s lane read below) n) in
       let all : drop (x + j) (taken (suc u)) ≡ bits 10 w ++ (flat_map (bits 10) later ++ k.rest) =
       k.are ∙ ap (λ ws. flat_map (bits 10) ws ++ k.rest)
-      (words-from s lane read mode below n q (omega arith))
+      (words-from s (wire_of s lane) read mode (wired s lane read below) n q (omega arith))
       ∙ append_assoc (bits 10 w) (flat_map (bits 10) later) k.rest in
       let bit : (i : ℕ) → i < 10 → get_or (bits 10 w) i false ≡ comma_bit (are.place + j + i) =
       λ i lt.
@@ -157,13 +159,13 @@ module _ (s : Plan) (lane : ℕ) (read : IsPlanRead s) (mode : s.link.params.mod
       ∙ sym (ap (λ l. get_or l i false) all) ∙ get_or-drop (x + j) (taken (suc u)) i false
       ∙ ap (λ y. get_or (taken (suc u)) y false) e
       ∙ are.are (j + i) (omega arith) ∙ ap comma_bit g in
-      let is_window = word-window w (are.place + j) (word-small s lane read mode below q) bit in
-      let spelled = spells s lane read mode below q ∙ ap Some is_window in
+      let is_window = word-window w (are.place + j) (word-small s (wire_of s lane) read mode (wired s lane read below) q) bit in
+      let spelled = spells s (wire_of s lane) read mode (wired s lane read below) q ∙ ap Some is_window in
       elim (cases_Bool ((are.place + j) % 10 == 0)) [
         | inl on ↦ let z = eqb-true ((are.place + j) % 10) 0 on in let g = are.grid in omega arith
         | inr off ↦
             absurd (no_slip (are.place + j) (eqb-false ((are.place + j) % 10) 0 off)
-            (rd_sent s lane read mode below q) (char_sent s lane read mode below q) spelled)
+            (rd_sent s (wire_of s lane) read mode (wired s lane read below) q) (char_sent s (wire_of s lane) read mode (wired s lane read below) q) spelled)
       ]
 
   -- bits before the line's delay is over are 0
@@ -172,7 +174,7 @@ module _ (s : Plan) (lane : ℕ) (read : IsPlanRead s) (mode : s.link.params.mod
   early-zero u x low up from inside early =
       let long = length-replicate d false in
       bit-is s lane read mode below h t session clean u x low up from inside
-      ∙ get_or_append_left (replicate d false) (sent_bits (run lanes_b s (suc u)) lane) false
+      ∙ get_or_append_left (replicate d false) (sent_bits (run lanes_b s (suc u)) (wire_of s lane)) false
       (10 * f + x) (omega arith)
       ∙ get_or-replicate d (10 * f + x) false false early
 

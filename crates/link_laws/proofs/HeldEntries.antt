@@ -16,6 +16,7 @@ use Rattle.scenario.specs.Plans.{Plan}
 use Rattle.link_model.specs.Moments.{History}
 use Rattle.link_model.specs.Gives.{gives_in}
 use Rattle.link_model.specs.Run.{run}
+use Rattle.link_model.specs.Wiring.{route_of}
 use Rattle.link_model.specs.Hunts.{session, standing}
 use Rattle.link_model.specs.Receives.{taken_in, told_of}
 use Rattle.link_model.proofs.NumberLists.{get_or-numbers, length-numbers}
@@ -59,17 +60,17 @@ entries-one-more kind p t facts lane taken w ticks size on =
 -- what a lane's buffer holds in the tick
 held-lane : (kind : LaneKind) (s : Plan) (h : History) (lane : ℕ) → lane < s.link.params.l
     → get_or (next kind s h).held lane 0
-    ≡ length (kind.entries s.link.params s.link.timing lane (took kind s h lane))
+    ≡ length (kind.entries s.link.params s.link.timing (route_of s lane) (took kind s h lane))
     - gives_in (session s h)
 held-lane kind s h lane below =
     let long = length-numbers s.link.params.l 0 in
     let count : ℕ → ℕ =
-    λ l. length (kind.entries s.link.params s.link.timing l (took kind s h l))
+    λ l. length (kind.entries s.link.params s.link.timing (route_of s l) (took kind s h l))
     - gives_in (session s h) in
     let same : 0 + lane ≡ lane = omega arith in
     ap (λ (l : List ℕ). get_or l lane 0)
     (held-next kind s h ∙ map-map (λ es. length es - gives_in (session s h))
-    (λ l. kind.entries s.link.params s.link.timing l (took kind s h l)) (lanes_of s))
+    (λ l. kind.entries s.link.params s.link.timing (route_of s l) (took kind s h l)) (lanes_of s))
     ∙ get_or-map count (lanes_of s) lane 0 0 (omega arith)
     ∙ ap count (get_or-numbers s.link.params.l lane 0 0 below ∙ same)
 
@@ -77,7 +78,7 @@ held-lane kind s h lane below =
 took-fits : (kind : LaneKind) (s : Plan) (h : History) (lane : ℕ)
     → KindFacts kind s.link.params s.link.timing → IsLegal s.link.params s.link.timing
     → lane < s.link.params.l → HasDepth kind s h lane
-    → length (kind.entries s.link.params s.link.timing lane (took kind s h lane))
+    → length (kind.entries s.link.params s.link.timing (route_of s lane) (took kind s h lane))
     - gives_in (session s h) ≤ depth s.link.params s.link.timing
 took-fits kind s h lane facts l below kept =
     let p = s.link.params in
@@ -86,9 +87,10 @@ took-fits kind s h lane facts l below kept =
     let w : Taken = record { order = told_of s h; word = get_or (next kind s h).taken lane [] } in
     let before : List Taken = taken_in (session s h) lane in
     let room = room-in p t l (standing s h).stage (phase_before s (length h))
-    (started_by kind p t lane before) (length (kind.entries p t lane before))
+    (started_by kind p t (route_of s lane) before)
+    (length (kind.entries p t (route_of s lane) before))
     (gives_in (session s h)) r.lane_in in
-    let more = entries-one-more kind p t facts lane before w r.ticks
+    let more = entries-one-more kind p t facts (route_of s lane) before w r.ticks
     (word-size kind s h lane below) r.on in
     let within = r.within in
     omega arith

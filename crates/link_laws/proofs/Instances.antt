@@ -60,6 +60,7 @@ event t w = record { tick = t; what = w }
 
 plan : List Event → List Jitter → Plan
 plan events jitters = record {
+  version = 1;
   link = record { params = params; timing = timing };
   ticks = 1190;
   print = print.Frames;
@@ -67,6 +68,9 @@ plan events jitters = record {
   events = events;
   jitters = jitters;
   flips = [];
+  wire = 0 ∷ 1 ∷ [];
+  route = 0 ∷ 1 ∷ [];
+  inverted = false ∷ false ∷ [];
 }
 
 -- the lanes' delays change places with a reset of the receiver
@@ -128,6 +132,7 @@ left-again = (omega arith, λ more. omega arith)
 
 fec : Plan
 fec = record {
+  version = 1;
   link = record {
     params = record {
       mode = CFec;
@@ -164,6 +169,9 @@ fec = record {
   jitters = [];
   flips = (record { lane = 0; first = 15043; count = 5 })
       ∷ (record { lane = 0; first = 15050; count = 4 }) ∷ [];
+  wire = 0 ∷ [];
+  route = 0 ∷ [];
+  inverted = false ∷ [];
 }
 
 inverted : ((is_inverted fec 0 15043 ≡ true) × (is_inverted fec 0 15047 ≡ true))

@@ -34,6 +34,7 @@ use Rattle.link_params.specs.declared.alarms.Device.TheVariants.{Tx}
 use Rattle.link_model.specs.Edges.{is_reset}
 use Rattle.link_model.specs.Orders.{after_boundary}
 use Rattle.link_model.specs.Sessions.{InSession, at, entries_at, first_tick, is_armed, report_at, taken_at}
+use Rattle.link_model.specs.Wiring.{route_of, wire_of}
 use Rattle.link_laws.specs.Premises.{Clean, Pattern}
 use Rattle.link_laws.specs.LaneLaws.{Carries, HasNoFault, HasStarted, IsCarrying, IsEntryOf, LaneData, is_first_place}
 use Rattle.link_laws.specs.Laws.{IsPlanRead}
@@ -51,6 +52,7 @@ use Rattle.link_laws.proofs.DataBack.{data-back, good, length-reads, none-bad}
 use Rattle.link_laws.proofs.DataSent.{data-sent, ilas-sent, length-octets_to, octet-to, octets-small, octets_to, order-of-data, order-of-ilas}
 use Rattle.link_laws.proofs.IlasGood.{state-good}
 use Rattle.link_laws.proofs.NeverLost.{IsPlaced, data-faultless, data-placed, ilas-faultless, ilas-placed, not-lost}
+use Rattle.link_laws.proofs.SetAsWired.{wired}
 
 good-not-bad : Good ≢ Bad
 good-not-bad e = cc
@@ -130,23 +132,23 @@ module _ (s : Plan) (lane : ℕ) (read : IsPlanRead s) (mode : s.link.params.mod
     rs = map Read cs
 
     abbrev octets : List ℕ
-    octets = octets_to s lane read mode below g t some_one quiet_from orders n
+    octets = octets_to s (wire_of s lane) read mode (wired s lane read below) g t some_one quiet_from orders n
 
     length-rs : length rs ≡ k
     length-rs = length-map cs Read ∙ length-chars s lane read mode below h t session clean A low up
         arms g k
 
     reads-at : (j : ℕ) → j < k
-        → get_or rs j Invalid ≡ Read (char_sent s lane read mode below (g + j))
+        → get_or rs j Invalid ≡ Read (char_sent s (wire_of s lane) read mode (wired s lane read below) (g + j))
     reads-at j lt =
         let long = length-chars s lane read mode below h t session clean A low up arms g k in
         get_or-map Read cs j (Data 0) Invalid (omega arith)
         ∙ ap Read (char-at s lane read mode below h t session clean A low up arms g k j
         (Data 0) lt)
 
-    ilas-at : (j : ℕ) → j < k → j < n4 → get_or rs j Invalid ≡ Read (ilas_char s.link.params lane j)
+    ilas-at : (j : ℕ) → j < k → j < n4 → get_or rs j Invalid ≡ Read (ilas_char s.link.params (wire_of s lane) j)
     ilas-at j lt inside = reads-at j lt
-        ∙ ap Read (ilas-sent s lane read mode below g t some_one quiet_from orders j
+        ∙ ap Read (ilas-sent s (wire_of s lane) read mode (wired s lane read below) g t some_one quiet_from orders j
         (omega arith) inside)
 
     abbrev data_chars : List Char
@@ -156,15 +158,15 @@ module _ (s : Plan) (lane : ℕ) (read : IsPlanRead s) (mode : s.link.params.mod
     data-at : (i : ℕ) → i < n → get_or rs (n4 + i) Invalid ≡ Read (get_or data_chars i (Data 0))
     data-at i lt =
         let e : g + (n4 + i) ≡ g + n4 + i = omega arith in
-        reads-at (n4 + i) (omega arith) ∙ ap (λ m. Read (char_sent s lane read mode below m)) e
-        ∙ ap Read (data-sent s lane read mode below g t some_one quiet_from orders n i lt
+        reads-at (n4 + i) (omega arith) ∙ ap (λ m. Read (char_sent s (wire_of s lane) read mode (wired s lane read below) m)) e
+        ∙ ap Read (data-sent s (wire_of s lane) read mode (wired s lane read below) g t some_one quiet_from orders n i lt
         (omega arith))
 
     abbrev small : AreSmall octets
-    small = octets-small s lane read mode below g t some_one quiet_from orders n
+    small = octets-small s (wire_of s lane) read mode (wired s lane read below) g t some_one quiet_from orders n
 
     length-octets : length octets ≡ n
-    length-octets = length-octets_to s lane read mode below g t some_one quiet_from orders n
+    length-octets = length-octets_to s (wire_of s lane) read mode (wired s lane read below) g t some_one quiet_from orders n
 
     data-reads : drop n4 rs ≡ map Read data_chars
     data-reads =
@@ -188,7 +190,7 @@ module _ (s : Plan) (lane : ℕ) (read : IsPlanRead s) (mode : s.link.params.mod
         not-lost rs s.link.params
         (λ j lt. elim (cases_lt j n4) [
           | inl inside ↦ ap (is_fault s.link.params j) (ilas-at j (omega arith) inside)
-              ∙ ilas-faultless s.link.params lane j inside
+              ∙ ilas-faultless s.link.params (wire_of s lane) j inside
           | inr past ↦
               let i : ℕ = j - n4 in
               let e : n4 + i ≡ j = omega arith in
@@ -200,7 +202,7 @@ module _ (s : Plan) (lane : ℕ) (read : IsPlanRead s) (mode : s.link.params.mod
         ])
         (λ j lt. elim (cases_lt j n4) [
           | inl inside ↦ subst (λ r. IsPlaced (alignment_at s.link.params j r))
-              (sym (ilas-at j (omega arith) inside)) (ilas-placed s.link.params lane j inside)
+              (sym (ilas-at j (omega arith) inside)) (ilas-placed s.link.params (wire_of s lane) j inside)
           | inr past ↦
               let i : ℕ = j - n4 in
               let e : n4 + i ≡ j = omega arith in
@@ -211,11 +213,13 @@ module _ (s : Plan) (lane : ℕ) (read : IsPlanRead s) (mode : s.link.params.mod
               (bad-none i (omega arith)))
         ])
 
-    pub checks-here : HasNoFault (ilas_state s.link.params lane rs)
+    pub checks-here : HasNoFault (ilas_state s.link.params (route_of s lane) rs)
     checks-here =
         let long = length-rs in
-        state-good s.link.params lane read.laws (ap is_b mode) below some-places rs
-        (λ i lt inside. ilas-at i (omega arith) inside)
+        subst (λ (l : ℕ). HasNoFault (ilas_state s.link.params l rs))
+        (clean.set_as_wired.routed lane below)
+        (state-good s.link.params (wire_of s lane) read.laws (ap is_b mode)
+        (wired s lane read below) some-places rs (λ i lt inside. ilas-at i (omega arith) inside))
 
     since-here : since_start (lock_of s lane read mode below h t session clean A low up arms t) ≡ rs
     since-here = since-some s lane read mode below h t session clean A low up arms g after starts
@@ -233,7 +237,7 @@ module _ (s : Plan) (lane : ℕ) (read : IsPlanRead s) (mode : s.link.params.mod
         least t begun (omega arith) in
         subst HasNoFault
         (sym (ap (λ (x : LaneReport). x.ilas) r.report
-        ∙ ap (ilas_state s.link.params lane) since-here)) checks-here
+        ∙ ap (ilas_state s.link.params (route_of s lane)) since-here)) checks-here
 
     -- ---- its entries, where it started inside its window
 
@@ -311,12 +315,12 @@ module _ (s : Plan) (lane : ℕ) (read : IsPlanRead s) (mode : s.link.params.mod
         → j < k → IsEntryOf lanes_b s h lane t j (g + j)
     entry-of j inside lt = elim (cases_lt j n4) [
       | inl early ↦
-          let order = order-of-ilas s lane read mode below g t some_one quiet_from orders j
+          let order = order-of-ilas s (wire_of s lane) read mode (wired s lane read below) g t some_one quiet_from orders j
           (omega arith) early in
           record {
             entry = Placed;
             found = ap (λ es. slice_get es j) (entries-are inside) ∙ placed-entry j lt early;
-            carries = subst (λ o. Carries o (slice_index (at lanes_b s (g + j)).handed lane) Placed)
+            carries = subst (λ o. Carries o (slice_index (at lanes_b s (g + j)).handed (wire_of s lane)) Placed)
                 (sym order) tt;
             well = tt;
           }
@@ -327,17 +331,17 @@ module _ (s : Plan) (lane : ℕ) (read : IsPlanRead s) (mode : s.link.params.mod
           let order : (at lanes_b s (g + j)).order
           ≡ DataOrder ((4 * period s.link.params + i) % period s.link.params) (i == 0) =
           sym (ap (λ (q : ℕ). (at lanes_b s q).order) m)
-          ∙ order-of-data s lane read mode below g t some_one quiet_from orders i
+          ∙ order-of-data s (wire_of s lane) read mode (wired s lane read below) g t some_one quiet_from orders i
           (omega arith) in
-          let octet : get_or octets i 0 ≡ slice_index (at lanes_b s (g + j)).handed lane =
-          octet-to s lane read mode below g t some_one quiet_from orders n i (omega arith)
-          ∙ ap (λ (q : ℕ). slice_index (at lanes_b s q).handed lane) m in
+          let octet : get_or octets i 0 ≡ slice_index (at lanes_b s (g + j)).handed (wire_of s lane) =
+          octet-to s (wire_of s lane) read mode (wired s lane read below) g t some_one quiet_from orders n i (omega arith)
+          ∙ ap (λ (q : ℕ). slice_index (at lanes_b s q).handed (wire_of s lane)) m in
           record {
             entry = Held (good (get_or octets i 0));
             found = ap (λ es. slice_get es j) (entries-are inside)
                 ∙ sym (ap (slice_get all_entries) e) ∙ held-entry i (omega arith);
             carries =
-                subst (λ o. Carries o (slice_index (at lanes_b s (g + j)).handed lane)
+                subst (λ o. Carries o (slice_index (at lanes_b s (g + j)).handed (wire_of s lane))
                 (Held (good (get_or octets i 0)))) (sym order) octet;
             well = (λ c. refl, good-not-bad);
           }
@@ -395,7 +399,8 @@ module _ (s : Plan) (lane : ℕ) (read : IsPlanRead s) (mode : s.link.params.mod
         no_fault =
             subst HasNoFault
             (sym (ap (λ (x : LaneReport). x.ilas) r.report
-            ∙ ap (ilas_state s.link.params lane) none)) (nothing-faulty s.link.params lane);
+            ∙ ap (ilas_state s.link.params (route_of s lane)) none))
+            (nothing-faulty s.link.params (route_of s lane));
         entries = λ x y q started inside low_y up_y is.
             let from = started.from in
             let by = started.by in

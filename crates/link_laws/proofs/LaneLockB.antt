@@ -29,6 +29,7 @@ use Rattle.lane_b.proofs.PlaceLemmas.{least_place-from}
 use Rattle.lane_b.proofs.SearchLemmas.{place-lock_at}
 use Rattle.scenario.specs.Plans.{Plan}
 use Rattle.link_model.specs.Sessions.{InSession, is_armed, report_at, taken_at}
+use Rattle.link_model.specs.Wiring.{route_of, wire_of}
 use Rattle.link_laws.specs.Premises.{Clean, Pattern}
 use Rattle.link_laws.specs.LaneLaws.{LaneLock, lock_ticks}
 use Rattle.link_laws.specs.Laws.{IsPlanRead}
@@ -43,6 +44,7 @@ use Rattle.link_laws.proofs.Grid.{IsOnGrid, on-grid}
 use Rattle.link_laws.proofs.HeldLock.{search-all}
 use Rattle.link_laws.proofs.LaneTicks.{are-tens}
 use Rattle.link_laws.proofs.LaneStartB.{report-of}
+use Rattle.link_laws.proofs.SetAsWired.{wired}
 
 -- ---- readings
 
@@ -156,10 +158,10 @@ module _ (s : Plan) (lane : ℕ) (read : IsPlanRead s) (mode : s.link.params.mod
   a = late s lane read mode below h t session clean
 
   abbrev w_at : ℕ → ℕ
-  w_at n = word_sent s lane read mode below n
+  w_at n = word_sent s (wire_of s lane) read mode (wired s lane read below) n
 
   abbrev rd_at : ℕ → Rd
-  rd_at n = rd_sent s lane read mode below n
+  rd_at n = rd_sent s (wire_of s lane) read mode (wired s lane read below) n
 
   -- from this tick on only /K/ is sent
   abbrev calm_from : ℕ
@@ -202,14 +204,14 @@ module _ (s : Plan) (lane : ℕ) (read : IsPlanRead s) (mode : s.link.params.mod
       (count-low lanes_b s b n
       (sees-low lanes_b s h t g t n (omega arith) (omega arith)
       (unarmed-stage lanes_b s h t g t unarmed) from (omega arith))) in
-      let char : char_sent s lane read mode below n ≡ Control 0xBC =
-      ap (char_of s.link.params lane (handed_by s lane read mode below n
-      ++ handed_at s lane read mode below n ∷ [])) order in
-      ap (spelling (rd_at n)) (sym char) ∙ spells s lane read mode below n
+      let char : char_sent s (wire_of s lane) read mode (wired s lane read below) n ≡ Control 0xBC =
+      ap (char_of s.link.params (wire_of s lane) (handed_by s (wire_of s lane) read mode (wired s lane read below) n
+      ++ handed_at s (wire_of s lane) read mode (wired s lane read below) n ∷ [])) order in
+      ap (spelling (rd_at n)) (sym char) ∙ spells s (wire_of s lane) read mode (wired s lane read below) n
 
   -- the words from tick q on, what the lane reads of them, and the first reading that is not of /K/
   abbrev words_since : ℕ → List ℕ
-  words_since q = drop q (words_to s lane read mode below (suc t - a))
+  words_since q = drop q (words_to s (wire_of s lane) read mode (wired s lane read below) (suc t - a))
 
   abbrev read_since : ℕ → List Reading
   read_since q = drop 1 (readings Minus (words_since q))
@@ -221,16 +223,16 @@ module _ (s : Plan) (lane : ℕ) (read : IsPlanRead s) (mode : s.link.params.mod
   other-early : (q : ℕ) → q + a ≤ t → is_empty (from_other (read_since q)) ≡ false
       → q + (1 + other_place q) < calm_from
   other-early q inside other =
-      let size = length-words_to s lane read mode below (suc t - a) in
-      let since = length-drop q (words_to s lane read mode below (suc t - a)) in
+      let size = length-words_to s (wire_of s lane) read mode (wired s lane read below) (suc t - a) in
+      let since = length-drop q (words_to s (wire_of s lane) read mode (wired s lane read below) (suc t - a)) in
       let count = length-readings (words_since q) Minus in
       let rest = length-drop 1 (readings Minus (words_since q)) in
       let some = is_empty-length (from_other (read_since q)) other in
       let fits = length-from_other (read_since q) in
       let at_word = reading-at (words_since q) Minus (1 + other_place q) (omega arith) in
       let word : get_or (words_since q) (1 + other_place q) 0 ≡ w_at (q + (1 + other_place q)) =
-      get_or-drop q (words_to s lane read mode below (suc t - a)) (1 + other_place q) 0
-      ∙ word-at s lane read mode below (suc t - a) (q + (1 + other_place q)) (omega arith) in
+      get_or-drop q (words_to s (wire_of s lane) read mode (wired s lane read below) (suc t - a)) (1 + other_place q) 0
+      ∙ word-at s (wire_of s lane) read mode (wired s lane read below) (suc t - a) (q + (1 + other_place q)) (omega arith) in
       let reads : get_or (read_since q) (other_place q) Invalid ≡ reading at_word.0
       (w_at (q + (1 + other_place q))) =
       get_or-drop 1 (readings Minus (words_since q)) (other_place q) Invalid ∙ at_word.1
@@ -289,7 +291,7 @@ module _ (s : Plan) (lane : ℕ) (read : IsPlanRead s) (mode : s.link.params.mod
       → (w_at n ≡ 0x0FA) × (rd_at (suc n) ≡ Plus)
   turns n from upto is =
       let next =
-      rd-next s lane read mode below n
+      rd-next s (wire_of s lane) read mode (wired s lane read below) n
       (reset-none s Tx (suc n)
       (clean.untouched.no_event (suc n) (omega arith) (omega arith))) in
       elim (comma-word (rd_at n) (w_at n) (spelled-comma n from (omega arith))) [
@@ -301,7 +303,7 @@ module _ (s : Plan) (lane : ℕ) (read : IsPlanRead s) (mode : s.link.params.mod
       → (w_at n ≡ 0x305) × (rd_at (suc n) ≡ Minus)
   turns-back n from upto is =
       let next =
-      rd-next s lane read mode below n
+      rd-next s (wire_of s lane) read mode (wired s lane read below) n
       (reset-none s Tx (suc n)
       (clean.untouched.no_event (suc n) (omega arith) (omega arith))) in
       elim (comma-word (rd_at n) (w_at n) (spelled-comma n from (omega arith))) [
@@ -356,15 +358,15 @@ module _ (s : Plan) (lane : ℕ) (read : IsPlanRead s) (mode : s.link.params.mod
       (omega arith) (omega arith) (omega arith) (omega arith) in
       let same = bits-are s lane read mode below h t session clean t (omega arith) (omega arith) in
       let later : List ℕ = drop (suc (suc (suc (suc calm_from))))
-      (words_to s lane read mode below n) in
-      let four : drop calm_from (words_to s lane read mode below n) ≡ four-words ++ later =
-      words-from s lane read mode below n calm_from (omega arith)
+      (words_to s (wire_of s lane) read mode (wired s lane read below) n) in
+      let four : drop calm_from (words_to s (wire_of s lane) read mode (wired s lane read below) n) ≡ four-words ++ later =
+      words-from s (wire_of s lane) read mode (wired s lane read below) n calm_from (omega arith)
       ∙ ap (λ ws. w_at calm_from ∷ ws)
-      (words-from s lane read mode below n (suc calm_from) (omega arith)
+      (words-from s (wire_of s lane) read mode (wired s lane read below) n (suc calm_from) (omega arith)
       ∙ ap (λ ws. w_at (suc calm_from) ∷ ws)
-      (words-from s lane read mode below n (suc (suc calm_from)) (omega arith)
+      (words-from s (wire_of s lane) read mode (wired s lane read below) n (suc (suc calm_from)) (omega arith)
       ∙ ap (λ ws. w_at (suc (suc calm_from)) ∷ ws)
-      (words-from s lane read mode below n (suc (suc (suc calm_from))) (omega arith)))) in
+      (words-from s (wire_of s lane) read mode (wired s lane read below) n (suc (suc (suc calm_from))) (omega arith)))) in
       ap (λ bs. begins_lock (drop z bs)) same ∙ ap begins_lock sent.are
       ∙ ap (λ ws. begins_lock (flat_map (bits 10) ws ++ sent.rest)) four
       ∙ ap (λ bs. begins_lock (bs ++ sent.rest)) (flat_map-append (bits 10) four-words later)
@@ -383,11 +385,11 @@ module _ (s : Plan) (lane : ℕ) (read : IsPlanRead s) (mode : s.link.params.mod
       let e = search-all taken Q tens first_one dropped-early in
       let low : 10 * f + e.0 ≤ d + 10 * calm_from = e.1 in
       let shown : (report_at lanes_b s lane t).locked
-      ≡ (report_of s.link.params lane taken (lock taken)).locked =
+      ≡ (report_of s.link.params (route_of s lane) taken (lock taken)).locked =
       ap (λ (r : LaneReport). r.locked)
       (report-of s lane read mode below h t session clean t) in
       elim (e.2) [
-        | inl y ↦ shown ∙ ap (λ o. (report_of s.link.params lane taken o).locked) y.1.is
+        | inl y ↦ shown ∙ ap (λ o. (report_of s.link.params (route_of s lane) taken o).locked) y.1.is
         | inr seeking ↦
             let never = nowhere (bits_taken taken) e.0 (d + 10 * calm_from - 10 * f) seeking.least
             (omega arith) in

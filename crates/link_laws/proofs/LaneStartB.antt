@@ -27,6 +27,7 @@ use Rattle.lane_b.proofs.SearchLemmas.{bits_to_start-inside, length-bits_taken, 
 use Rattle.scenario.specs.Plans.{Plan}
 use Rattle.link_model.specs.Edges.{is_reset}
 use Rattle.link_model.specs.Sessions.{InSession, at, first_tick, is_armed, report_at, taken_at}
+use Rattle.link_model.specs.Wiring.{route_of, wire_of}
 use Rattle.link_laws.specs.Premises.{Clean, Pattern}
 use Rattle.link_laws.specs.LaneLaws.{ComesAfter, HasStarted, IsStartSent, IsStarting, LaneStart, due_after, is_first_place}
 use Rattle.link_laws.specs.Laws.{IsPlanRead}
@@ -40,6 +41,7 @@ use Rattle.link_laws.proofs.CleanLine.{arrival-is, first, goes-on, late}
 use Rattle.link_laws.proofs.HeldLock.{IsHeld, and_neither, held-more, search-all}
 use Rattle.link_laws.proofs.LaneTicks.{are-tens, length-took, order-is, report-is, taken-longer}
 use Rattle.link_laws.proofs.ArmedReadings.{chars-some, chars_from, fourth, from, grid, held, is-late, length-chars, length-read_to, next, none-until, place, read-is, read_to, sends-comma, some-from}
+use Rattle.link_laws.proofs.SetAsWired.{wired}
 
 first-char : (p : Params) (lane : ℕ) → 0 < period p → is_comma_char (ilas_char p lane 0) ≡ false
 unfolding ilas_char
@@ -77,7 +79,7 @@ module _ (s : Plan) (lane : ℕ) (read : IsPlanRead s) (mode : s.link.params.mod
     (below : lane < s.link.params.l)
     (h t : ℕ) (session : InSession lanes_b s h t) (clean : Clean s h t) where
   pub report-of : (u : ℕ)
-      → report_at lanes_b s lane u ≡ report_of s.link.params lane (taken_at lanes_b s lane u)
+      → report_at lanes_b s lane u ≡ report_of s.link.params (route_of s lane) (taken_at lanes_b s lane u)
       (lock (taken_at lanes_b s lane u))
   unfolding report_b
   report-of u = report-is s lane u below
@@ -91,14 +93,14 @@ module _ (s : Plan) (lane : ℕ) (read : IsPlanRead s) (mode : s.link.params.mod
       let tens = are-tens s lane read mode below h t session clean u low up in
       let k = search-all taken (λ x. Unit {0}) tens tt (λ y stands fits other. tt) in
       let shown : (report_at lanes_b s lane u).started
-      ≡ (report_of s.link.params lane taken (lock taken)).started =
+      ≡ (report_of s.link.params (route_of s lane) taken (lock taken)).started =
       ap (λ (r : LaneReport). r.started) (report-of u) in
       elim (k.2) [
-        | inr seeking ↦ shown ∙ ap (λ o. (report_of s.link.params lane taken o).started) seeking.is
+        | inr seeking ↦ shown ∙ ap (λ o. (report_of s.link.params (route_of s lane) taken o).started) seeking.is
         | inl y ↦
             let q : IsHeld taken k.0 y.0 = y.1 in
             let l : Lock = lock_at (bits_taken taken) y.0 in
-            shown ∙ ap (λ o. (report_of s.link.params lane taken o).started) q.is
+            shown ∙ ap (λ o. (report_of s.link.params (route_of s lane) taken o).started) q.is
             ∙ elim (cases_Bool (is_empty (since_start l))) [
               | inl none ↦ started-none taken l (is_empty-nil (since_start l) none)
               | inr some ↦
@@ -193,7 +195,7 @@ module _ (s : Plan) (lane : ℕ) (read : IsPlanRead s) (mode : s.link.params.mod
   -- what the lane reports then
   pub record IsLocked (u : ℕ) : Type 0 where
     pub lock_is : lock (taken u) ≡ Some (lock_of u)
-    pub report : report_at lanes_b s lane u ≡ report_of s.link.params lane (taken u)
+    pub report : report_at lanes_b s lane u ≡ report_of s.link.params (route_of s lane) (taken u)
         (Some (lock_of u))
 
   pub locked-report : (u : ℕ) → A ≤ u → u ≤ t → is_dropped (taken u) (lock_of u) ≡ false
@@ -201,7 +203,7 @@ module _ (s : Plan) (lane : ℕ) (read : IsPlanRead s) (mode : s.link.params.mod
   locked-report u from_A upto kept = record {
     lock_is = lock-is u from_A upto kept;
     report = report-of s lane read mode below h t session clean u
-        ∙ ap (report_of s.link.params lane (taken u)) (lock-is u from_A upto kept);
+        ∙ ap (report_of s.link.params (route_of s lane) (taken u)) (lock-is u from_A upto kept);
   }
 
   since-is : (u : ℕ) → A ≤ u → u ≤ t
@@ -252,12 +254,12 @@ module _ (s : Plan) (lane : ℕ) (read : IsPlanRead s) (mode : s.link.params.mod
         (DataOrder (0 % period s.link.params) (0 == 4 * period s.link.params))
         (lt-ltb 0 (4 * period s.link.params) (let p = some-period in omega arith))
 
-    other-char : is_comma_char (char_sent s lane read mode below g) ≡ false
+    other-char : is_comma_char (char_sent s (wire_of s lane) read mode (wired s lane read below) g) ≡ false
     other-char =
         ap (λ o. is_comma_char
-        (char_of s.link.params lane (handed_by s lane read mode below g
-        ++ handed_at s lane read mode below g ∷ []) o)) order-first
-        ∙ first-char s.link.params lane some-period
+        (char_of s.link.params (wire_of s lane) (handed_by s (wire_of s lane) read mode (wired s lane read below) g
+        ++ handed_at s (wire_of s lane) read mode (wired s lane read below) g ∷ []) o)) order-first
+        ∙ first-char s.link.params (wire_of s lane) some-period
 
     -- all that it read since the start
     pub since-some : (u : ℕ) → g + a ≤ u → u ≤ t

@@ -25,6 +25,7 @@ use Rattle.link_model.proofs.LaneHistory.{taken-in-more}
 use Rattle.link_model.proofs.NextMoment.{reports-next, took}
 use Rattle.link_model.proofs.NumberLists.{get_or-numbers, length-numbers}
 use Rattle.link_model.specs.Sessions.{InSession, at, no_report, report_at, taken_at}
+use Rattle.link_model.specs.Wiring.{route_of}
 use Rattle.link_laws.specs.Premises.{Clean}
 use Rattle.link_laws.specs.Laws.{IsPlanRead}
 use Rattle.link_laws.proofs.RunTicks.{told-at, stands}
@@ -68,13 +69,13 @@ armed-locked s A lane arms below =
 
 -- what a lane reports
 pub report-is : (s : Plan) (lane u : ℕ) → lane < s.link.params.l
-    → report_at lanes_b s lane u ≡ report_b s.link.params s.link.timing lane
+    → report_at lanes_b s lane u ≡ report_b s.link.params s.link.timing (route_of s lane)
     (taken_at lanes_b s lane u)
 report-is s lane u below =
     let r : History = run lanes_b s u in
     let n = length-numbers s.link.params.l 0 in
     let same : 0 + lane ≡ lane = omega arith in
-    let f : ℕ → LaneReport = λ l. report_b s.link.params s.link.timing l (took lanes_b s r l) in
+    let f : ℕ → LaneReport = λ l. report_b s.link.params s.link.timing (route_of s l) (took lanes_b s r l) in
     let taken : took lanes_b s r lane ≡ taken_at lanes_b s lane u =
     ap (λ (o : RxOrder). taken_in (session s r) lane
     ++ (record { order = o; word = get_or (at lanes_b s u).taken lane [] }) ∷ [])
@@ -83,7 +84,7 @@ report-is s lane u below =
     ap (λ l. get_or l lane no_report) (reports-next lanes_b s r)
     ∙ get_or-map f (numbers_from 0 s.link.params.l) lane 0 no_report (omega arith)
     ∙ ap f (get_or-numbers s.link.params.l lane 0 0 below ∙ same)
-    ∙ ap (report_b s.link.params s.link.timing lane) taken
+    ∙ ap (report_b s.link.params s.link.timing (route_of s lane)) taken
 
 module _ (s : Plan) (lane : ℕ) (read : IsPlanRead s) (mode : s.link.params.mode ≡ B)
     (below : lane < s.link.params.l)

@@ -25,6 +25,7 @@ use Rattle.link_laws.proofs.OrdersGo.{ilas_ticks}
 use Rattle.link_laws.proofs.Released.{places}
 use Rattle.link_laws.proofs.ReleasedTicks.{begins, begins-late, calm-on, entry-at, frame-order, frames-count}
 use Rattle.link_laws.proofs.Stages.{decision_at}
+use Rattle.link_laws.proofs.SetAsWired.{set_as_wired-of}
 
 -- ---- numbers
 
@@ -161,7 +162,7 @@ module _ (kind : LaneKind) (pattern : Pattern) (s : Plan) (read : IsPlanRead s)
         delivered = is.is;
         left = omega arith;
         words =
-            frame-words kind s h u b read
+            frame-words kind s h u b read (set_as_wired-of s h t whole)
             (λ j inside. places kind pattern s read laws h r t session met lone whole low up
             releases j (omega arith)) k (u - r + 1) full
             (λ lane j below inside. (omega arith, entries lane j below inside));

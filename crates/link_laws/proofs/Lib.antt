@@ -4,6 +4,7 @@ pub mod Congruences
 pub mod PlanRead
 pub mod FirstPlace
 pub mod Stages
+pub mod SetAsWired
 pub mod SessionStages
 pub mod ReleaseTick
 pub mod SessionTicks

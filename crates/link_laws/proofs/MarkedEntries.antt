@@ -24,6 +24,7 @@ use Rattle.scenario.specs.Plans.{Plan, numbers_from}
 use Rattle.link_model.specs.kept.Before.{no_cell}
 use Rattle.link_model.specs.Gives.{octets_in}
 use Rattle.link_model.specs.Run.{run}
+use Rattle.link_model.specs.Wiring.{route_of}
 use Rattle.link_model.proofs.FactsB.{facts-b}
 use Rattle.link_model.proofs.NextMoment.{took}
 use Rattle.link_model.proofs.WindowFacts.{legal}
@@ -174,7 +175,7 @@ marked-b s read mode t lane j below runs inside =
     let more = o.gives runs in
     let some = (legal_sizes p read.laws).f_low in
     let taken : taken_at lanes_b s lane t ≡ took lanes_b s h lane = took-is lanes_b s t lane in
-    rw taken (entries-marked p s.link.timing lane (took lanes_b s h lane) j mode some (omega arith))
+    rw taken (entries-marked p s.link.timing (route_of s lane) (took lanes_b s h lane) j mode some (omega arith))
 
 pub marks-b : (s : Plan) → IsPlanRead s → s.link.params.mode ≡ B → Marks lanes_b checked_b s
 marks-b s read mode =

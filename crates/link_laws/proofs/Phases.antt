@@ -21,6 +21,7 @@ use Rattle.link_model.specs.Edges.{edge_tick, edges, is_edge, is_reset, jitter, 
 use Rattle.link_model.proofs.NumberLists.{get_or-numbers, length-numbers}
 use Rattle.link_model.proofs.TxHistory.{last-reset-before}
 use Rattle.link_model.proofs.EdgeTicks.{IsRegular, is_edge-here, jitter-small, place_low}
+use Rattle.link_model.specs.Wiring.{wire_of}
 use Rattle.link_laws.specs.Premises.{GivesPhase}
 
 -- ---- resets
@@ -186,13 +187,14 @@ captured-met n k tol z steady small up =
 times-over : (i p q : ℕ) → i * (p * q) ≡ p * (i * q)
 times-over i p q = mul_left_comm i p q
 
--- what the laws give of edges
+-- what the laws give of edges, and that each lane is wired to one
 pub record HasEdges (s : Plan) : Type 0 where
   pub regular : IsRegular s
   pub some : 17 ≤ period s.link.params
   pub multiple : (q : ℕ) × (s.link.timing.sysref_period ≡ period s.link.params * q)
   pub steady_tx : is_steady s.link.timing.tolerance s.link.timing.tx_skew ≡ true
   pub steady_rx : is_steady s.link.timing.tolerance s.link.timing.rx_skew ≡ true
+  pub wired : (lane : ℕ) → lane < s.link.params.l → wire_of s lane < s.link.params.l
 
 steady-skew : (s : Plan) (d : Device) → HasEdges s
     → is_steady s.link.timing.tolerance (skew s.link.timing d) ≡ true

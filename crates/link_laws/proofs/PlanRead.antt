@@ -23,6 +23,7 @@ use Rattle.link_model.proofs.EdgeTicks.{paced_by}
 use Rattle.link_laws.specs.Premises.{arrival, has_event}
 use Rattle.link_laws.specs.Laws.{IsPlanRead}
 use Rattle.link_laws.proofs.Phases.{HasEdges}
+use Rattle.link_laws.proofs.SetAsWired.{wired}
 
 pub all-hold : (ls : List (ℕ × Bool)) → first_broken ls ≡ None → AllHold ls
 all-hold [] e = tt
@@ -223,4 +224,5 @@ has-edges s r =
       multiple = (t.sysref_period / n, omega arith);
       steady_tx = one.1;
       steady_rx = both.1;
+      wired = λ lane below. wired s lane r below;
     }

@@ -32,6 +32,7 @@ untouched-later s h k t low c =
 
 pub clean-later : (s : Plan) (h k t : ℕ) → h ≤ k → Clean s h t → Clean s k t
 clean-later s h k t low c = record {
+  set_as_wired = c.set_as_wired;
   untouched = untouched-later s h k t low c.untouched;
   upright = λ lane i comes. c.upright lane i (let q = comes.0 in omega arith, comes.1);
 }

@@ -17,6 +17,8 @@ use Rattle.link_model.specs.Moments.{Delivered, History, Moment}
 use Rattle.link_model.specs.Gives.{frame_given, gives_in, octets_given}
 use Rattle.link_model.specs.Hunts.{is_hunt, session}
 use Rattle.link_model.specs.Run.{moment, run}
+use Rattle.link_model.specs.Wiring.{lane_for}
+use Rattle.link_model.proofs.Wirings.{lane-for-below}
 use Rattle.link_model.specs.Sessions.{InSession, at, decides_hunt, delivered_by, entries_at, first_tick}
 use Rattle.link_laws.specs.Premises.{Lone, Met, Pattern, Undamaged}
 use Rattle.link_laws.specs.LaneLaws.{IsEntryOf, LaneLaws}
@@ -183,13 +185,14 @@ module _ (kind : LaneKind) (pattern : Pattern) (s : Plan) (read : IsPlanRead s)
       let gave : gives_in (session_before kind s u) ≡ n =
       gave-since kind s h t r g low up releases u (omega arith) to ∙ since in
       let shaped : (j : ℕ) → j < suc n → (e : Entry)
-      × (slice_get (entries_at kind s 0 u) j ≡ Some e) × IsShaped p j e =
+      × (slice_get (entries_at kind s (lane_for s 0) u) j ≡ Some e) × IsShaped p j e =
       λ j below.
-      let e = entry-at u 0 j (omega arith) to some (omega arith) in
+      let of_link = lane-for-below s 0 some in
+      let e = entry-at u (lane_for s 0) j (omega arith) to of_link (omega arith) in
       let o =
       entry-octets kind s h u begins read
       (λ i inside. places kind pattern s read laws h r t session met lone whole low up releases
-      i (omega arith)) 0 j some (omega arith) e in
+      i (omega arith)) (lane_for s 0) j of_link (omega arith) e in
       (e.entry, e.found, o.shaped) in
       delivered-numbers kind s u n some (runs-at u (omega arith) to) gave shaped
       ∙ ap₂

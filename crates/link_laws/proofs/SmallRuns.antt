@@ -1,6 +1,6 @@
 -- Small runs of one 8b/10b lane, evaluated: one on which the premises of the laws hold, one whose
 -- lane arrives outside its window, and one with bad characters.
-use Rattle.std.proofs.Common.{◌≡◌, ℕ, zero, suc, ◌<◌, not, Bool, true, false, List, [], ◌∷◌, ◌++◌, map, slice_get, Some, None, inl, refl, sym, ap, ◌∙◌, arith, ◌&&◌, ◌+◌}
+use Rattle.std.proofs.Common.{◌≡◌, ℕ, zero, suc, ◌<◌, not, Bool, true, false, List, [], ◌∷◌, ◌++◌, map, get_or, slice_get, Some, None, inl, refl, sym, ap, ◌∙◌, arith, ◌&&◌, ◌+◌}
 use Rattle.std.specs.List.{flat_map, list_all}
 use Rattle.std.proofs.lemmas.Bool.{and_parts, le-leb, ne_eqb}
 use Rattle.std.proofs.lemmas.List.Elements.{All-cons, All-nil}
@@ -36,7 +36,7 @@ use Rattle.scenario.specs.declared.plan.Event.{Event}
 use Rattle.scenario.specs.declared.plan.Flip.{Flip}
 use Rattle.scenario.specs.declared.plan.Print.TheVariants as print
 use Rattle.scenario.specs.declared.plan.What.TheVariants.{Delay, Dead}
-use Rattle.scenario.specs.Limits.{event_fits}
+use Rattle.scenario.specs.Limits.{event_fits, is_order}
 use Rattle.scenario.specs.Plans.{Frames, Plan, Ramp, Source, in_order, numbers_from, source_frame}
 use Rattle.scenario.proofs.ReadingLaws.{frame-below, frame-size}
 use Rattle.link_model.specs.Carried.{delay_at, is_dead, inverted_bits, received}
@@ -47,6 +47,7 @@ use Rattle.link_model.specs.Moments.{History, Moment}
 use Rattle.link_model.specs.Orders.{after_low, from_boundary, from_edge, tx_order}
 use Rattle.link_model.specs.Receives.{taken_in, told_of}
 use Rattle.link_model.specs.Run.{moment, run}
+use Rattle.link_model.specs.Wiring.{lane_for}
 use Rattle.link_model.specs.Sends.{seen_low, observed, order_of, handed_to, handed_since, last_of, sent_by}
 use Rattle.link_model.specs.Sessions.{InSession, at, decides_hunt, first_tick}
 use Rattle.link_model.proofs.RunTicks.{has-each-tick}
@@ -59,6 +60,7 @@ use Rattle.link_laws.proofs.RunsByLaws.{runs-by-laws}
 -- a link whose multiframe has 17 ticks, with a window from 1 to 5 ticks
 plan_of_one : Bool → Source → List Event → List Flip → Plan
 plan_of_one scr source events flips = record {
+  version = 1;
   link = record {
     params = record {
       mode = B;
@@ -94,6 +96,9 @@ plan_of_one scr source events flips = record {
   events = events;
   jitters = [];
   flips = flips;
+  wire = 0 ∷ [];
+  route = 0 ∷ [];
+  inverted = false ∷ [];
 }
 
 -- ---- what is told of a run
@@ -111,6 +116,7 @@ code (alarm.LaneLost lane) = 3 ∷ lane ∷ []
 code (alarm.NoLock lane) = 4 ∷ lane ∷ []
 code (alarm.IlasFault lane x) = 5 ∷ lane ∷ x ∷ []
 code (alarm.ConfigMismatch lane x) = 6 ∷ lane ∷ x ∷ []
+code (alarm.LaneId lane x) = 9 ∷ lane ∷ x ∷ []
 code (alarm.SysrefPhase d x) = 7 ∷ x ∷ []
 code alarm.StartTimeout = 8 ∷ []
 
@@ -144,7 +150,7 @@ small = plan_of_one true (Ramp 0 1) [] []
 -- armed in tick 58, released in 75 = 70 + LATT
 decided : decided_ticks 0 (run lanes_b small 147) ≡ 58 ∷ 1 ∷ 75 ∷ 2 ∷ []
 unfolding small plan_of_one ends_in_hunt from_hunt session standing seen_low observed order_of
-    handed_to handed_since last_of sent_by told_of cells_in octets_given frames_given moment run
+    handed_to handed_since last_of sent_by told_of cells_in octets_given frames_given moment lane_for run
     after_low from_boundary from_edge tx_order is_reset last_reset jitter edge_tick is_edge
     edges delay_at is_dead inverted_bits received tens from_other lock_at lock_from lock
     faults_from some_rest alignments_from is_lost report_b restored spread cells data_cells
@@ -164,7 +170,7 @@ on-time : (entered_times (run lanes_b small 147) ++ (0 ∷ left_times (run lanes
     ≡ 138 ∷ 139 ∷ 140 ∷ 141 ∷ 142 ∷ 143 ∷ 144 ∷ 145 ∷ 146 ∷ 0 ∷ 143 ∷ 144 ∷ 145 ∷ 146 ∷ 0 ∷ 0 ∷ 1
     ∷ 2 ∷ 3 ∷ []
 unfolding small plan_of_one ends_in_hunt from_hunt session standing seen_low observed order_of
-    handed_to handed_since last_of sent_by told_of cells_in octets_given frames_given moment run
+    handed_to handed_since last_of sent_by told_of cells_in octets_given frames_given moment lane_for run
     after_low from_boundary from_edge tx_order is_reset last_reset jitter edge_tick is_edge
     edges delay_at is_dead inverted_bits received tens from_other lock_at lock_from lock
     faults_from some_rest alignments_from is_lost report_b restored spread cells data_cells
@@ -188,7 +194,7 @@ outside = plan_of_one true (Ramp 0 1) ((record { tick = 0; what = Delay 0 70 }) 
 window : decided_ticks 0 (run lanes_b outside 93) ++ left_times (run lanes_b outside 93)
     ≡ 58 ∷ 1 ∷ 92 ∷ 3 ∷ 1 ∷ 0 ∷ 7 ∷ []
 unfolding outside plan_of_one ends_in_hunt from_hunt session standing seen_low observed order_of
-    handed_to handed_since last_of sent_by told_of cells_in octets_given frames_given moment run
+    handed_to handed_since last_of sent_by told_of cells_in octets_given frames_given moment lane_for run
     after_low from_boundary from_edge tx_order is_reset last_reset jitter edge_tick is_edge
     edges delay_at is_dead inverted_bits received tens from_other lock_at lock_from lock
     faults_from some_rest alignments_from is_lost report_b restored spread cells data_cells
@@ -222,7 +228,7 @@ nine_good = mark.Ok ∷ mark.Ok ∷ mark.Ok ∷ mark.Ok ∷ mark.Ok ∷ mark.Ok 
 marks : marks_of (run lanes_b marked 156)
     ≡ nine_good ++ (mark.Bad ∷ mark.Ok ∷ mark.Bad ∷ mark.Ok ∷ [])
 unfolding marked plan_of_one ends_in_hunt from_hunt session standing seen_low observed order_of
-    handed_to handed_since last_of sent_by told_of cells_in octets_given frames_given moment run
+    handed_to handed_since last_of sent_by told_of cells_in octets_given frames_given moment lane_for run
     after_low from_boundary from_edge tx_order is_reset last_reset jitter edge_tick is_edge
     edges delay_at is_dead inverted_bits received tens from_other lock_at lock_from lock
     faults_from some_rest alignments_from is_lost report_b restored spread cells data_cells
@@ -239,7 +245,7 @@ marks = refl
 marks-due : due 13 ≡ nine_good ++ (mark.Bad ∷ mark.Ok ∷ mark.Bad ∷ mark.Ok ∷ [])
 unfolding marked plan_of_one checked_b repeated_pieces ends_in_hunt from_hunt session standing
     seen_low observed order_of handed_to handed_since last_of sent_by told_of cells_in
-    octets_given frames_given moment run after_low from_boundary from_edge tx_order is_reset
+    octets_given frames_given moment lane_for run after_low from_boundary from_edge tx_order is_reset
     last_reset jitter edge_tick is_edge edges delay_at is_dead inverted_bits received tens
     from_other lock_at lock_from lock faults_from some_rest alignments_from is_lost report_b
     restored spread cells data_cells entries_b octets_of replaced data_char data_octets
@@ -255,12 +261,14 @@ marks-due = refl
 -- ---- the premises of Latency hold of the first run
 
 small-read : IsPlanRead small
-unfolding small plan_of_one lat_ticks first_from
+unfolding small plan_of_one lat_ticks first_from is_order numbers_from
 small-read = record {
   laws = refl;
   timing = refl;
   events = All-nil _;
   jitters = All-nil _;
+  wire = refl;
+  route = refl;
   frames = λ n. record { whole = frame-size small n; below = λ r inside. frame-below small n r tt };
 }
 
@@ -272,16 +280,21 @@ small-inside : (t : ℕ) → Inside small t
 unfolding small plan_of_one delay_at
 small-inside t lane below = (omega arith, omega arith)
 
+none-inverted : (lane : ℕ) → get_or (false ∷ []) lane false ≡ false
+none-inverted zero = refl
+none-inverted (suc n) = refl
+
 small-clean : (h t : ℕ) → Clean small h t
 unfolding small plan_of_one is_dead numbers_from
 small-clean h t = record {
+  set_as_wired = record { routed = λ lane below. refl; polarity = λ lane below. none-inverted lane };
   untouched = record { no_event = λ x low up. refl; alive = λ x low up. refl };
   upright = λ lane i comes v. let bad : false ≡ true = v.flipped in absurd (cc);
 }
 
 calm : list_all (λ (m : Moment). not (is_hunt m.decided.decision)) (run lanes_b small 147) ≡ true
 unfolding small plan_of_one ends_in_hunt from_hunt session standing seen_low observed order_of
-    handed_to handed_since last_of sent_by told_of cells_in octets_given frames_given moment run
+    handed_to handed_since last_of sent_by told_of cells_in octets_given frames_given moment lane_for run
     after_low from_boundary from_edge tx_order is_reset last_reset jitter edge_tick is_edge
     edges delay_at is_dead inverted_bits received tens from_other lock_at lock_from lock
     faults_from some_rest alignments_from is_lost report_b restored spread cells data_cells
@@ -297,7 +310,7 @@ calm = refl
 
 released : (at lanes_b small 75).decided.decision ≡ decision.Release
 unfolding small plan_of_one ends_in_hunt from_hunt session standing seen_low observed order_of
-    handed_to handed_since last_of sent_by told_of cells_in octets_given frames_given moment run
+    handed_to handed_since last_of sent_by told_of cells_in octets_given frames_given moment lane_for run
     after_low from_boundary from_edge tx_order is_reset last_reset jitter edge_tick is_edge
     edges delay_at is_dead inverted_bits received tens from_other lock_at lock_from lock
     faults_from some_rest alignments_from is_lost report_b restored spread cells data_cells
@@ -365,12 +378,14 @@ unfolding long small plan_of_one
 long-mode = refl
 
 long-read : IsPlanRead long
-unfolding long small plan_of_one lat_ticks first_from
+unfolding long small plan_of_one lat_ticks first_from is_order numbers_from
 long-read = record {
   laws = refl;
   timing = refl;
   events = All-nil _;
   jitters = All-nil _;
+  wire = refl;
+  route = refl;
   frames = λ n. record { whole = frame-size long n; below = λ r inside. frame-below long n r tt };
 }
 
@@ -385,6 +400,7 @@ long-inside t lane below = (omega arith, omega arith)
 long-clean : (h t : ℕ) → Clean long h t
 unfolding long small plan_of_one is_dead numbers_from
 long-clean h t = record {
+  set_as_wired = record { routed = λ lane below. refl; polarity = λ lane below. none-inverted lane };
   untouched = record { no_event = λ x low up. refl; alive = λ x low up. refl };
   upright = λ lane i comes v. let bad : false ≡ true = v.flipped in absurd (cc);
 }
@@ -409,7 +425,7 @@ unfolding outside plan_of_one
 outside-mode = refl
 
 outside-read : IsPlanRead outside
-unfolding outside plan_of_one lat_ticks first_from
+unfolding outside plan_of_one lat_ticks first_from is_order numbers_from
 outside-read = record {
   laws = refl;
   timing = refl;
@@ -417,6 +433,8 @@ outside-read = record {
       λ e. event_fits outside.link.params outside.ticks e ≡ true in
       All-cons fits (record { tick = 0; what = Delay 0 70 }) [] refl (All-nil fits);
   jitters = All-nil _;
+  wire = refl;
+  route = refl;
   frames = λ n. record {
     whole = frame-size outside n;
     below = λ r inside. frame-below outside n r tt;
@@ -430,6 +448,7 @@ outside-met t d i gives = omega arith
 outside-clean : (t : ℕ) → Clean outside 0 t
 unfolding outside plan_of_one is_dead numbers_from
 outside-clean t = record {
+  set_as_wired = record { routed = λ lane below. refl; polarity = λ lane below. none-inverted lane };
   untouched = record {
     no_event = λ x low up. rw (ne_eqb 0 x (λ z. omega arith)) refl;
     alive = λ x low up. rw (le-leb 0 x (omega arith)) refl;
@@ -449,7 +468,7 @@ not-inside inside = not-within (inside 0 (omega arith))
 outside-calm : list_all (λ (m : Moment). not (is_hunt m.decided.decision)) (run lanes_b outside 92)
     ≡ true
 unfolding outside plan_of_one ends_in_hunt from_hunt session standing seen_low observed order_of
-    handed_to handed_since last_of sent_by told_of cells_in octets_given frames_given moment run
+    handed_to handed_since last_of sent_by told_of cells_in octets_given frames_given moment lane_for run
     after_low from_boundary from_edge tx_order is_reset last_reset jitter edge_tick is_edge
     edges delay_at is_dead inverted_bits received tens from_other lock_at lock_from lock
     faults_from some_rest alignments_from is_lost report_b restored spread cells data_cells
@@ -466,7 +485,7 @@ outside-calm = refl
 outside-idle : list_all (λ (m : Moment). not (m.decides && some_started m.reports))
     (run lanes_b outside 92) ≡ true
 unfolding outside plan_of_one ends_in_hunt from_hunt session standing seen_low observed order_of
-    handed_to handed_since last_of sent_by told_of cells_in octets_given frames_given moment run
+    handed_to handed_since last_of sent_by told_of cells_in octets_given frames_given moment lane_for run
     after_low from_boundary from_edge tx_order is_reset last_reset jitter edge_tick is_edge
     edges delay_at is_dead inverted_bits received tens from_other lock_at lock_from lock
     faults_from some_rest alignments_from is_lost report_b restored spread cells data_cells
@@ -482,7 +501,7 @@ outside-idle = refl
 
 outside-decides : (at lanes_b outside 92).decides ≡ true
 unfolding outside plan_of_one ends_in_hunt from_hunt session standing seen_low observed order_of
-    handed_to handed_since last_of sent_by told_of cells_in octets_given frames_given moment run
+    handed_to handed_since last_of sent_by told_of cells_in octets_given frames_given moment lane_for run
     after_low from_boundary from_edge tx_order is_reset last_reset jitter edge_tick is_edge
     edges delay_at is_dead inverted_bits received tens from_other lock_at lock_from lock
     faults_from some_rest alignments_from is_lost report_b restored spread cells data_cells
@@ -498,7 +517,7 @@ outside-decides = refl
 
 outside-starts : some_started (at lanes_b outside 92).reports ≡ true
 unfolding outside plan_of_one ends_in_hunt from_hunt session standing seen_low observed order_of
-    handed_to handed_since last_of sent_by told_of cells_in octets_given frames_given moment run
+    handed_to handed_since last_of sent_by told_of cells_in octets_given frames_given moment lane_for run
     after_low from_boundary from_edge tx_order is_reset last_reset jitter edge_tick is_edge
     edges delay_at is_dead inverted_bits received tens from_other lock_at lock_from lock
     faults_from some_rest alignments_from is_lost report_b restored spread cells data_cells

@@ -48,7 +48,8 @@ unfoldable pub checked_b : Params → List Taken → ℕ → Mark
 checked_b p taken n = let read = data_read p (lock taken) in
     if list_any (λ x. is_bad_char p x (reading_at read x)) (pieces p read n) then Bad else Good
 
--- the mark that frame k of a session is due: the worst over its octets on all lanes
+-- the mark that frame k of a session is due: the worst over its octets on all lanes, by what was taken
+-- for each lane of the frame
 abbrev pub checked_frame : Checks → Params → (ℕ → List Taken) → ℕ → Mark
 checked_frame checks p taken k =
     fold worse Good (flat_map (λ lane. map (checks p (taken lane)) (numbers_from (k * p.f) p.f))

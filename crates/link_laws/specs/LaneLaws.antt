@@ -19,6 +19,7 @@ use Rattle.bring_up.specs.declared.stage.Decision.TheVariants.{Arm}
 use Rattle.scenario.specs.Plans.{Plan}
 use Rattle.link_model.specs.Edges.{phase}
 use Rattle.link_model.specs.Sessions.{InSession, at, entries_at, first_tick, is_armed, report_at}
+use Rattle.link_model.specs.Wiring.{wire_of}
 use Rattle.link_laws.specs.Premises.{Clean, Lone, Pattern, Undamaged, arrival}
 
 -- ---- the lock
@@ -142,7 +143,8 @@ IsEntryWell s h t (Held c) = IsMarkedWell s h t c.mark
 pub record IsEntryOf (kind : LaneKind) (s : Plan) (h lane t n q : ℕ) : Type 0 where
   pub entry : Entry
   pub found : slice_get (entries_at kind s lane t) n ≡ Some entry
-  pub carries : Carries (at kind s q).order (slice_index (at kind s q).handed lane) entry
+  pub carries : Carries (at kind s q).order (slice_index (at kind s q).handed (wire_of s lane))
+      entry
   pub well : IsEntryWell s h t entry
 
 -- the alignment sequence breaks no rule

@@ -5,7 +5,7 @@
 use Rattle.std.specs.Prelude.{◌≡◌, ◌≢◌, ℕ, ◌+◌, ◌*◌, ◌%◌, ◌<◌, ◌≤◌, Bool, true, false, if◌then◌else◌, List, [], All, length, drop, get_or, slice_get, Some, None}
 use Rattle.std.specs.List.{flat_map}
 use Rattle.link_params.specs.declared.alarms.Alarm.{Alarm}
-use Rattle.link_params.specs.declared.alarms.Alarm.TheVariants.{LaneWindow, LaneMissing, LaneLost, NoLock, IlasFault, ConfigMismatch, SysrefPhase, StartTimeout}
+use Rattle.link_params.specs.declared.alarms.Alarm.TheVariants.{LaneWindow, LaneMissing, LaneLost, NoLock, IlasFault, ConfigMismatch, LaneId, SysrefPhase, StartTimeout}
 use Rattle.link_params.specs.declared.alarms.Device.TheVariants.{Tx}
 use Rattle.link_params.specs.declared.fields.Params.{Params}
 use Rattle.link_params.specs.Laws.{is_b, broken_law}
@@ -15,7 +15,7 @@ use Rattle.link_params.specs.TimingLaws.{broken_timing}
 use Rattle.code_8b10b.specs.Commas.{stands_at}
 use Rattle.bring_up.specs.declared.stage.Decision.TheVariants.{Release}
 use Rattle.bring_up.specs.Decisions.{is_running, some_started}
-use Rattle.scenario.specs.Limits.{event_fits, jitter_fits}
+use Rattle.scenario.specs.Limits.{event_fits, is_order, jitter_fits}
 use Rattle.scenario.specs.Plans.{Plan, source_frame}
 use Rattle.link_model.specs.Edges.{last_reset}
 use Rattle.link_model.specs.Moments.{Delivered, Moment}
@@ -23,6 +23,7 @@ use Rattle.link_model.specs.Report.{totals}
 use Rattle.link_model.specs.Run.{run}
 use Rattle.link_model.specs.Hunts.{session}
 use Rattle.link_model.specs.Sessions.{InSession, at, decides_hunt, delivered_by, entered_by, first_tick, hunts_at, taken_at}
+use Rattle.link_model.specs.Wiring.{lane_for}
 use Rattle.link_laws.specs.Premises.{Clean, Inside, IsWithin, Lone, Met, Pattern, Undamaged}
 use Rattle.link_laws.specs.LaneLaws.{IsMarkedWell, LaneLaws}
 use Rattle.link_laws.specs.Checked.{Checks, checked_frame}
@@ -129,6 +130,7 @@ IsOutsideAlarm s t (LaneLost lane) = ⊥
 IsOutsideAlarm s t (NoLock lane) = ⊥
 IsOutsideAlarm s t (IlasFault lane x) = ⊥
 IsOutsideAlarm s t (ConfigMismatch lane octet) = ⊥
+IsOutsideAlarm s t (LaneId lane lid) = ⊥
 IsOutsideAlarm s t (SysrefPhase d x) = ⊥
 IsOutsideAlarm s t StartTimeout = ⊥
 
@@ -157,7 +159,7 @@ delivered_before kind s t =
 abbrev pub Marks : LaneKind → Checks → Plan → Type 0
 Marks kind checks s = (t k : ℕ) (d : Delivered) → t < s.ticks
     → slice_get (at kind s t).delivered k ≡ Some d
-    → d.mark ≡ checked_frame checks s.link.params (λ lane. taken_at kind s lane t)
+    → d.mark ≡ checked_frame checks s.link.params (λ place. taken_at kind s (lane_for s place) t)
     (delivered_before kind s t + k)
 
 -- ---- NoImitation: nothing else that an 8b/10b lane sends looks like its lock
@@ -187,6 +189,8 @@ pub record IsPlanRead (s : Plan) : Type 0 where
   pub timing : broken_timing s.link.params s.link.timing ≡ None
   pub events : All (λ e. event_fits s.link.params s.ticks e ≡ true) s.events
   pub jitters : All (λ j. jitter_fits j ≡ true) s.jitters
+  pub wire : is_order s.link.params.l s.wire ≡ true
+  pub route : is_order s.link.params.l s.route ≡ true
   pub frames : (n : ℕ) → FitFrame s.link.params (source_frame s n)
 
 -- where the lane laws hold of a plan's run, so does Latency, whatever the kind of lane

@@ -18,6 +18,7 @@ use Rattle.link_model.specs.Carried.{delay_at, is_dead, is_inverted}
 use Rattle.link_model.specs.Run.{run}
 use Rattle.link_model.specs.Receives.{taken_in}
 use Rattle.link_model.specs.Sessions.{first_tick}
+use Rattle.link_model.specs.Wiring.{has_inverted_polarity, route_of, wire_of}
 
 -- ---- a disturbed tick
 
@@ -35,6 +36,12 @@ pub record IsInverted (s : Plan) (lane i : ℕ) : Type 0 where
   pub sent : delay_at s lane (i / width s.link.params) ≤ i
   pub flipped : is_inverted s lane i ≡ true
 
+-- each receiver lane is set to be the lane of the frame whose transmitter lane it is wired to, and
+-- undoes the exchange of its wires where they are exchanged, and only there
+pub record IsSetAsWired (s : Plan) : Type 0 where
+  pub routed : (lane : ℕ) → lane < s.link.params.l → wire_of s lane ≡ route_of s lane
+  pub polarity : (lane : ℕ) → lane < s.link.params.l → has_inverted_polarity s lane ≡ false
+
 -- no event and no dead lane in the ticks from h + 1 to t
 pub record Untouched (s : Plan) (h t : ℕ) : Type 0 where
   pub no_event : (x : ℕ) → h < x → x ≤ t → has_event s x ≡ false
@@ -44,8 +51,10 @@ pub record Untouched (s : Plan) (h t : ℕ) : Type 0 where
 abbrev pub ComesIn : Plan → ℕ → ℕ → ℕ → Type 0
 ComesIn s h t i = (h < i / width s.link.params) × (i / width s.link.params ≤ t)
 
--- no tick from h + 1 to t is disturbed: no event, no dead lane, no inverted bit
+-- the lanes are set as they are wired, and no tick from h + 1 to t is disturbed: no event, no dead lane, no
+-- inverted bit
 pub record Clean (s : Plan) (h t : ℕ) : Type 0 where
+  pub set_as_wired : IsSetAsWired s
   pub untouched : Untouched s h t
   pub upright : (lane i : ℕ) → ComesIn s h t i → IsInverted s lane i → ⊥
 
@@ -71,10 +80,11 @@ abbrev pub ReceivesBit : Plan → ℕ → ℕ → PayloadBit → Type 0
 ReceivesBit s lane i b = let sent = i - delay_at s lane (i / 66) in
     IsPayloadBit s (sent / 66) (sent % 66) b
 
--- with FEC, received bits may be inverted from h + 1 to t: payload bits alone, in each multiblock
--- within nine consecutive ones
+-- as clean, but with FEC received bits may be inverted from h + 1 to t: payload bits alone, in each
+-- multiblock within nine consecutive ones
 pub record OneBurst (s : Plan) (h t : ℕ) : Type 0 where
   pub fec : s.link.params.mode ≡ CFec
+  pub set_as_wired : IsSetAsWired s
   pub untouched : Untouched s h t
   pub payload : (lane i : ℕ) → ComesIn s h t i → IsInverted s lane i
       → (b : PayloadBit) × ReceivesBit s lane i b

@@ -22,6 +22,7 @@ use Rattle.lane_c.specs.Received.{lanes_c}
 use Rattle.lane_c.proofs.SenderSteps.{mod-both, period-c}
 use Rattle.lane_c.proofs.SentBlocks.{length-payload, length-word}
 use Rattle.link_model.specs.Sessions.{at, first_tick}
+use Rattle.link_model.specs.Wiring.{wire_of}
 use Rattle.link_laws.specs.Premises.{Clean, IsInverted, OneBurst, PayloadBit, ReceivesBit}
 use Rattle.link_laws.proofs.Phases.{phase-of}
 use Rattle.link_laws.proofs.PlanRead.{delay-same}
@@ -110,7 +111,7 @@ module _ (s : Plan) (h t lane : ℕ) (c : InSessionC s h t lane) (burst : OneBur
   x0 = edge_tick s Tx k.sent.edge
 
   abbrev octets : List ℕ
-  octets = octets_from s lane x0 (suc t)
+  octets = octets_from s (wire_of s lane) x0 (suc t)
 
   abbrev m : ℕ
   m = (k.sent.q + 32 * j - x0) / 32
@@ -150,7 +151,7 @@ module _ (s : Plan) (h t lane : ℕ) (c : InSessionC s h t lane) (burst : OneBur
       let above = g.above in
       let f = first-low lanes_c s h t g in
       let l = length-payload octets in
-      let count = length-octets s lane x0 (suc t) in
+      let count = length-octets s (wire_of s lane) x0 (suc t) in
       let rest = length-drop (2048 * m) xs in
       let step = k.sent.step in
       let stands = k.sent.stands in
@@ -199,7 +200,7 @@ module _ (s : Plan) (h t lane : ℕ) (c : InSessionC s h t lane) (burst : OneBur
       ∙ ap₂ (λ (q i : ℕ). get_or (get_or (at lanes_c s q).taken lane []) i false) tick place
 
   sent-bit : (b : ℕ) → b < 2048
-      → get_or sent_one b false ≡ sent_bit s lane (66 * tick_of b + (2 + b % 64))
+      → get_or sent_one b false ≡ sent_bit s (wire_of s lane) (66 * tick_of b + (2 + b % 64))
   sent-bit b inside =
       let xs : List Bool = payload_of octets in
       let g = on s h t lane c in
@@ -214,8 +215,9 @@ module _ (s : Plan) (h t lane : ℕ) (c : InSessionC s h t lane) (burst : OneBur
       let number : 64 * n + b % 64 ≡ 2048 * m + b = omega arith in
       let tick : (66 * q + (2 + b % 64)) / 66 ≡ q = omega arith in
       let place : (66 * q + (2 + b % 64)) % 66 ≡ 2 + b % 64 = omega arith in
-      let block_is : sent_at s lane q ≡ block_of s.link.params octets n =
-      sent-block s lane q k.sent.edge (suc t) (edges s h t lane c) c.mode c.below
+      let block_is : sent_at s (wire_of s lane) q ≡ block_of s.link.params octets n =
+      sent-block s (wire_of s lane) q k.sent.edge (suc t) (edges s h t lane c) c.mode
+      ((edges s h t lane c).wired lane c.below)
       (gives-since s Tx t q k.sent.edge k.sent.gives (omega arith) (omega arith))
       (omega arith) in
       get_or-take 2048 (drop (2048 * m) xs) b false inside ∙ get_or-drop (2048 * m) xs b false
@@ -224,7 +226,7 @@ module _ (s : Plan) (h t lane : ℕ) (c : InSessionC s h t lane) (burst : OneBur
       ∙ get_or-drop (64 * n) xs (b % 64) false)
       ∙ sym (block-bit (word_bit s.link.params octets n) (take 64 (drop (64 * n) xs)) (b % 64))
       ∙ sym (ap (λ (l : List Bool). get_or l (2 + b % 64) false) block_is)
-      ∙ sym (ap₂ (λ (i o : ℕ). get_or (sent_at s lane i) o false) tick place)
+      ∙ sym (ap₂ (λ (i o : ℕ). get_or (sent_at s (wire_of s lane) i) o false) tick place)
 
   -- a bit that differs was inverted
   inverted-of : (b : ℕ) → b < 2048 → differs read_one sent_one b ≡ true
@@ -250,12 +252,13 @@ module _ (s : Plan) (h t lane : ℕ) (c : InSessionC s h t lane) (burst : OneBur
             + (2 + b % 64) = omega arith in
             let equal : get_or read_one b false ≡ get_or sent_one b false =
             read-bit b inside
-            ∙ bit-upright s lane h t (i / 66) (i % 66) e c.mode c.below clear up low (omega arith)
+            ∙ bit-upright s lane h t (i / 66) (i % 66) e c.mode c.below
+            (burst.set_as_wired.polarity lane c.below) clear up low (omega arith)
             (omega arith) (λ inv.
             let f = inv.flipped in
             let g : is_inverted s lane i ≡ true = ap (is_inverted s lane) (sym number) ∙ f in
             absurd (cc))
-            ∙ ap (sent_bit s lane) sent_is ∙ sym (sent-bit b inside) in
+            ∙ ap (sent_bit s (wire_of s lane)) sent_is ∙ sym (sent-bit b inside) in
             let none = no-difference read_one sent_one b equal in
             absurd (cc)
       ]

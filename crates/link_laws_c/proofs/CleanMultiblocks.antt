@@ -7,6 +7,7 @@ use Rattle.link_params.specs.declared.cells.Mark.TheVariants as mark
 use Rattle.link_params.specs.declared.fields.Mode.{Mode}
 use Rattle.scenario.specs.Plans.{Plan}
 use Rattle.link_model.specs.Edges.{edge_tick}
+use Rattle.link_model.specs.Wiring.{wire_of}
 use Rattle.block_66b.specs.declared.sync_bit.SyncBit.TheVariants.{Bad}
 use Rattle.block_66b.specs.Blocks.{header}
 use Rattle.multiblock.specs.Places.{Place}
@@ -60,7 +61,7 @@ module _ (s : Plan) (h t lane : ℕ) (c : InSessionC s h t lane) (clean : Clean 
   x0 = edge_tick s Tx k.sent.edge
 
   abbrev pub octets : List ℕ
-  octets = octets_from s lane x0 (suc t)
+  octets = octets_from s (wire_of s lane) x0 (suc t)
 
   -- multiblock j of the place is this one of the transmission
   abbrev pub number_of : ℕ → ℕ
@@ -134,7 +135,7 @@ module _ (s : Plan) (h t lane : ℕ) (c : InSessionC s h t lane) (clean : Clean 
       let next : number_of (j + 1) ≡ suc (number_of j) = omega arith in
       let part : List Bool = part_of xs (number_of j) in
       let l = length-payload octets in
-      let count = length-octets s lane x0 (suc t) in
+      let count = length-octets s (wire_of s lane) x0 (suc t) in
       let rest = length-drop (2048 * number_of j) xs in
       let step = k.sent.step in
       let bits_long = length-session-bits s h t g lane t (omega arith) (omega arith)

@@ -14,6 +14,7 @@ use Rattle.multiblock.proofs.PlaceLemmas.{finds_least_place}
 use Rattle.lane_c.specs.Locking.{arrives}
 use Rattle.lane_c.specs.Received.{lanes_c, report_of}
 use Rattle.link_model.specs.Sessions.{first_tick, report_at, taken_at}
+use Rattle.link_model.specs.Wiring.{route_of}
 use Rattle.link_laws.specs.Premises.{Lone, arrival, lock_pattern}
 use Rattle.link_laws.proofs.Phases.{HasEdges, phase-of}
 use Rattle.link_laws.proofs.SessionStages.{Goes}
@@ -37,7 +38,7 @@ place-of-lock s lane u below locked =
       | inl k ↦ k
       | inr none ↦
           let taken : List Taken = taken_at lanes_c s lane u in
-          let is = report-at s lane u below ∙ report-none s.link.params s.link.timing lane taken
+          let is = report-at s lane u below ∙ report-none s.link.params s.link.timing (route_of s lane) taken
           (place-none s.link.params.e taken none) in
           true-false (sym (ap (λ (r : LaneReport). r.locked) is) ∙ locked)
     ]
@@ -61,7 +62,7 @@ pub report-of-place : (s : Plan) (h t lane u : ℕ) (p : Place) → lane < s.lin
     → Holds s h t lane u p
     → report_at lanes_c s lane u ≡ report_of s.link.params (taken_at lanes_c s lane u) (Some p)
 report-of-place s h t lane u p below k = report-at s lane u below
-    ∙ report-held s.link.params s.link.timing lane (taken_at lanes_c s lane u) p k.held
+    ∙ report-held s.link.params s.link.timing (route_of s lane) (taken_at lanes_c s lane u) p k.held
 
 pub kept-of-place : (s : Plan) (h t lane u : ℕ) (p : Place) → lane < s.link.params.l
     → Holds s h t lane u p → (report_at lanes_c s lane u).lost ≡ false

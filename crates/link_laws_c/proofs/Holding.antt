@@ -22,6 +22,7 @@ use Rattle.lane_c.specs.Loss.{first_loss}
 use Rattle.lane_c.specs.Locking.{arrives, place}
 use Rattle.lane_c.specs.Received.{lanes_c, report_c}
 use Rattle.link_model.specs.Sessions.{at, first_tick, no_report, report_at, taken_at}
+use Rattle.link_model.specs.Wiring.{route_of, wire_of}
 use Rattle.link_laws.specs.Premises.{GivesPhase, IsOnGrid, Lone, Undamaged, arrival, lock_pattern}
 use Rattle.link_laws.proofs.Phases.{HasEdges}
 use Rattle.link_laws.proofs.SessionStages.{Goes}
@@ -53,7 +54,7 @@ pub present-form : (s : Plan) (h t lane u x q i : ℕ) → Goes lanes_c s h t
     → q % 32 ≡ edge_tick s Tx i % 32 → HasForm s lane u x q i
 present-form s h t lane u x q i g low up e mode some below damage gives from is step =
     let p = s.link.params in
-    let os = octets_from s lane (edge_tick s Tx i) (suc u) in
+    let os = octets_from s (wire_of s lane) (edge_tick s Tx i) (suc u) in
     let k : ℕ = q - edge_tick s Tx i in
     let whole : k % 32 ≡ 0 = omega arith in
     record {
@@ -175,26 +176,28 @@ took kind s u l = taken_in (session s (run kind s u)) l
     ++ (record { order = (at kind s u).told; word = get_or (at kind s u).taken l [] }) ∷ []
 
 reports-are : (kind : LaneKind) (s : Plan) (u : ℕ)
-    → (at kind s u).reports ≡ map (λ l. kind.report s.link.params s.link.timing l (took kind s u l))
+    → (at kind s u).reports ≡ map
+    (λ l. kind.report s.link.params s.link.timing (route_of s l) (took kind s u l))
     (numbers_from 0 s.link.params.l)
 unfolding moment
 reports-are kind s u = refl
 
 report-of : (kind : LaneKind) (s : Plan) (lane u : ℕ) → lane < s.link.params.l
-    → report_at kind s lane u ≡ kind.report s.link.params s.link.timing lane
+    → report_at kind s lane u ≡ kind.report s.link.params s.link.timing (route_of s lane)
     (taken_at kind s lane u)
 report-of kind s lane u below =
     let long = length-numbers s.link.params.l 0 in
-    let f : ℕ → LaneReport = λ l. kind.report s.link.params s.link.timing l (took kind s u l) in
+    let f : ℕ → LaneReport =
+    λ l. kind.report s.link.params s.link.timing (route_of s l) (took kind s u l) in
     let same : 0 + lane ≡ lane = omega arith in
     ap (λ (l : List LaneReport). get_or l lane no_report) (reports-are kind s u)
     ∙ get_or-map f (numbers_from 0 s.link.params.l) lane 0 no_report (omega arith)
     ∙ ap f (get_or-numbers s.link.params.l lane 0 0 below ∙ same)
-    ∙ ap (kind.report s.link.params s.link.timing lane)
+    ∙ ap (kind.report s.link.params s.link.timing (route_of s lane))
     (sym (taken-in-more (session s (run kind s u)) (at kind s u) lane))
 
 pub report-at : (s : Plan) (lane u : ℕ) → lane < s.link.params.l
-    → report_at lanes_c s lane u ≡ report_c s.link.params s.link.timing lane
+    → report_at lanes_c s lane u ≡ report_c s.link.params s.link.timing (route_of s lane)
     (taken_at lanes_c s lane u)
 report-at s lane u below = report-of lanes_c s lane u below
 

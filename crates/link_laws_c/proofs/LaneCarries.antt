@@ -16,6 +16,7 @@ use Rattle.lane_c.specs.Locking.{leaves, offset_of, place, start}
 use Rattle.lane_c.specs.Statuses.{Judged, known_blocks}
 use Rattle.lane_c.specs.Received.{cell, cells, cells_left, entries_c, entries_from, entries_of, lanes_c}
 use Rattle.link_model.specs.Sessions.{at, entries_at, first_tick, report_at, taken_at}
+use Rattle.link_model.specs.Wiring.{route_of, wire_of}
 use Rattle.link_laws.specs.Premises.{Clean, arrival}
 use Rattle.link_laws.specs.LaneLaws.{Carries, HasNoFault, HasStarted, IsCarrying, IsEntryOf, due_after}
 use Rattle.link_laws.proofs.SessionStages.{first-high, first-low}
@@ -49,7 +50,7 @@ module _ (s : Plan) (h t lane : ℕ) (c : InSessionC s h t lane) where
         | inr none ↦
             let taken : List Taken = taken_at lanes_c s lane t in
             ap (λ (r : LaneReport). r.lost) (report-at s lane t c.below
-            ∙ report-none s.link.params s.link.timing lane taken
+            ∙ report-none s.link.params s.link.timing (route_of s lane) taken
             (place-none s.link.params.e taken none))
         | inl f ↦ kept-of-place s h t lane t f.0 c.below
             (held s h t lane c t f.0 (omega arith) (omega arith) f.1)
@@ -63,7 +64,7 @@ module _ (s : Plan) (h t lane : ℕ) (c : InSessionC s h t lane) where
       elim (cases_some (least_place s.link.params.e 0 (bits_at lanes_c s lane t))) [
         | inr none ↦
             let taken : List Taken = taken_at lanes_c s lane t in
-            let is = report-at s lane t c.below ∙ report-none s.link.params s.link.timing lane taken
+            let is = report-at s lane t c.below ∙ report-none s.link.params s.link.timing (route_of s lane) taken
             (place-none s.link.params.e taken none) in
             subst HasNoFault (sym (ap (λ (r : LaneReport). r.ilas) is)) tt
         | inl f ↦
@@ -156,8 +157,8 @@ module _ (s : Plan) (h t lane : ℕ) (c : InSessionC s h t lane) where
             (omega arith) in
             let order = order-block s q k.sent.edge e c.mode
             (gives-since s Tx t q k.sent.edge k.sent.gives (omega arith) (omega arith)) in
-            let value : x_cell.value ≡ slice_index (at lanes_c s q).handed lane =
-            good_cell.octets_are ∙ ap (λ (z : ℕ). slice_index (at lanes_c s z).handed lane)
+            let value : x_cell.value ≡ slice_index (at lanes_c s q).handed (wire_of s lane) =
+            good_cell.octets_are ∙ ap (λ (z : ℕ). slice_index (at lanes_c s z).handed (wire_of s lane))
             block in
             record {
               entry = HeldCell x_cell;
@@ -166,7 +167,7 @@ module _ (s : Plan) (h t lane : ℕ) (c : InSessionC s h t lane) where
                   ∙ ap Some (get_or-map HeldCell left i dc Placed inside_left
                   ∙ ap HeldCell cell_is);
               carries =
-                  subst (λ (o : TxOrder). Carries o (slice_index (at lanes_c s q).handed lane)
+                  subst (λ (o : TxOrder). Carries o (slice_index (at lanes_c s q).handed (wire_of s lane))
                   (HeldCell x_cell)) (sym order) value;
               well = (good_cell.clean, good_cell.not_bad);
             }

@@ -16,6 +16,7 @@ use Rattle.block_66b.specs.Blocks.{header}
 use Rattle.multiblock.specs.Places.{Place, pattern, pattern_size, span}
 use Rattle.lane_c.specs.Received.{lanes_c}
 use Rattle.link_model.specs.Sessions.{first_tick, report_at}
+use Rattle.link_model.specs.Wiring.{wire_of}
 use Rattle.link_laws.specs.Premises.{GivesPhase, arrival, lock_pattern}
 use Rattle.link_laws.specs.LaneLaws.{LaneLock, lock_ticks}
 use Rattle.link_laws.specs.Laws.{IsPlanRead}
@@ -165,7 +166,7 @@ module _ (s : Plan) (h t lane : ℕ) (c : InSessionC s h t lane) where
       let above = g.above in
       let e = edges s h t lane c in
       let p = s.link.params in
-      let os = octets_from s lane (edge_tick s Tx i) (suc t) in
+      let os = octets_from s (wire_of s lane) (edge_tick s Tx i) (suc t) in
       let k : ℕ = q - edge_tick s Tx i in
       let none : k % 32 ≡ 0 = omega arith in
       let long = length-session-bits s h t g lane t (omega arith) (omega arith) e c.mode c.below in
@@ -177,7 +178,7 @@ module _ (s : Plan) (h t lane : ℕ) (c : InSessionC s h t lane) where
       header-taken s h t g lane t (omega arith) (omega arith) e c.mode c.below (x + 66 * n)
       (q + n) c.damage (omega arith) (omega arith) there
       ∙ ap header
-      (sent-block s lane (q + n) i (suc t) e c.mode c.below
+      (sent-block s (wire_of s lane) (q + n) i (suc t) e c.mode (e.wired lane c.below)
       (gives-since s Tx t (q + n) i gives (omega arith) (omega arith)) (omega arith))
       ∙ header-of-block (word_bit p os (q + n - edge_tick s Tx i)) _
       ∙ ap (λ (m : ℕ). header_of (word_bit p os m)) number)

@@ -10,6 +10,7 @@ use Rattle.scenario.specs.Plans.{Plan}
 use Rattle.multiblock.specs.Places.{Place, least_place, pattern_size}
 use Rattle.lane_c.specs.Received.{lanes_c}
 use Rattle.link_model.specs.Sessions.{at, first_tick, is_armed, report_at, taken_at}
+use Rattle.link_model.specs.Wiring.{route_of}
 use Rattle.link_laws.specs.Premises.{arrival, lock_pattern}
 use Rattle.link_laws.specs.LaneLaws.{ArmedBy, ComesAfter, HasStarted, IsStartSent, IsStarting, LaneStart, due_after, is_first_place}
 use Rattle.link_laws.specs.Laws.{IsPlanRead}
@@ -45,7 +46,7 @@ module _ (s : Plan) (h t lane : ℕ) (c : InSessionC s h t lane) where
       → (report_at lanes_c s lane u).started ≡ None
   none-without u none =
       ap (λ (r : LaneReport). r.started) (report-at s lane u c.below
-      ∙ report-none s.link.params s.link.timing lane (taken_at lanes_c s lane u)
+      ∙ report-none s.link.params s.link.timing (route_of s lane) (taken_at lanes_c s lane u)
       (place-none s.link.params.e (taken_at lanes_c s lane u) none))
 
   -- a lane has not started by tick u where no block that starts it was sent in time

@@ -25,6 +25,7 @@ use Rattle.link_model.specs.kept.Before.{no_cell}
 use Rattle.link_model.specs.Gives.{octets_in}
 use Rattle.link_model.specs.Run.{run}
 use Rattle.link_model.specs.Sessions.{taken_at}
+use Rattle.link_model.specs.Wiring.{route_of}
 use Rattle.link_model.proofs.Depth.{depth-run, tick-outcome}
 use Rattle.link_model.proofs.FactsC.{facts-c}
 use Rattle.link_model.proofs.NextMoment.{took}
@@ -184,7 +185,7 @@ marked-c s read mode t lane j below runs inside =
     (depth-run lanes_c t s lane facts read.laws read.timing below) in
     let more = o.gives runs in
     let taken : taken_at lanes_c s lane t ≡ took lanes_c s h lane = took-is lanes_c s t lane in
-    rw taken (entries-marked p s.link.timing lane (took lanes_c s h lane) j mode (omega arith))
+    rw taken (entries-marked p s.link.timing (route_of s lane) (took lanes_c s h lane) j mode (omega arith))
 
 pub marks-c : MarksC
 marks-c s read mode =

@@ -21,6 +21,7 @@ use Rattle.multiblock.specs.Places.{headers, pattern, pattern_size, span}
 use Rattle.lane_c.specs.Sent.{payload_of, word_of}
 use Rattle.lane_c.specs.Received.{lanes_c}
 use Rattle.link_model.specs.Sessions.{first_tick}
+use Rattle.link_model.specs.Wiring.{wire_of}
 use Rattle.link_laws.specs.Premises.{GivesPhase, Undamaged, arrival}
 use Rattle.link_laws.specs.Laws.{IsPlanRead}
 use Rattle.link_laws.proofs.Phases.{HasEdges, edge-of-phase, last-reset-same}
@@ -146,7 +147,7 @@ module _ (s : Plan) (h t lane u x q i r : ℕ) (g : Goes lanes_c s h t)
 
   -- and it is that of what was sent, behind the first
   sent-header : (n : ℕ) → 0 < n → x + 66 * suc n ≤ length bs
-      → header (drop (x + 66 * n) bs) ≡ header (sent_at s lane (q + n))
+      → header (drop (x + 66 * n) bs) ≡ header (sent_at s (wire_of s lane) (q + n))
   sent-header n later_one inside =
       let f = first-low lanes_c s h t g in
       let long = length-session-bits s h t g lane u low up e mode below in
@@ -159,7 +160,7 @@ module _ (s : Plan) (h t lane u x q i r : ℕ) (g : Goes lanes_c s h t)
     | inl k ↦ k
     | inr none ↦ absurd (good-not-bad (get_or pattern-read.sync n false)
         (sym (read-at n inside) ∙ sent-header n later_one (omega arith)
-        ∙ ap header (sent-silent s lane (q + n) e mode below none) ∙ silent-bad))
+        ∙ ap header (sent-silent s (wire_of s lane) (q + n) e mode (e.wired lane below) none) ∙ silent-bad))
   ]
 
   abbrev x0 : ℕ
@@ -293,30 +294,30 @@ module _ (s : Plan) (h t lane u x q i r : ℕ) (g : Goes lanes_c s h t)
 
   -- the octets of the older transmission, and those of the present one
   abbrev was : List ℕ
-  was = octets_from s lane x1 x0
+  was = octets_from s (wire_of s lane) x1 x0
 
   abbrev now_sent : List ℕ
-  now_sent = octets_from s lane x0 (suc u)
+  now_sent = octets_from s (wire_of s lane) x0 (suc u)
 
   -- what was sent before the edge are blocks of the older one
   old-sent : (n : ℕ) → q + n < x0
-      → header (sent_at s lane (q + n)) ≡ header_of (word_bit s.link.params was (q - x1 + n))
+      → header (sent_at s (wire_of s lane) (q + n)) ≡ header_of (word_bit s.link.params was (q - x1 + n))
   old-sent n before =
       let o : IsOlder = older in
       let from = o.from in
       let number : q + n - x1 ≡ q - x1 + n = omega arith in
       ap header
-      (sent-block s lane (q + n) o.edge x0 e mode below
+      (sent-block s (wire_of s lane) (q + n) o.edge x0 e mode (e.wired lane below)
       (gives-since s Tx (x0 - 1) (q + n) o.edge o.given (omega arith) (omega arith))
       (omega arith))
       ∙ header-of-block (word_bit s.link.params was (q + n - x1)) _
       ∙ ap (λ (m : ℕ). header_of (word_bit s.link.params was m)) number
 
   new-sent : (n : ℕ) → x0 ≤ q + n → q + n ≤ u
-      → header (sent_at s lane (q + n)) ≡ header_of (word_bit s.link.params now_sent (q + n - x0))
+      → header (sent_at s (wire_of s lane) (q + n)) ≡ header_of (word_bit s.link.params now_sent (q + n - x0))
   new-sent n after by =
       ap header
-      (sent-block s lane (q + n) i (suc u) e mode below
+      (sent-block s (wire_of s lane) (q + n) i (suc u) e mode (e.wired lane below)
       (gives-since s Tx t (q + n) i gives after (omega arith)) (omega arith))
       ∙ header-of-block (word_bit s.link.params now_sent (q + n - x0)) _
 

@@ -12,6 +12,7 @@ use Rattle.link_model.proofs.TxHistory.{last-reset-before, last-reset-now}
 use Rattle.block_66b.specs.Blocks.{header}
 use Rattle.lane_c.specs.Received.{lanes_c}
 use Rattle.link_model.specs.Sessions.{first_tick}
+use Rattle.link_model.specs.Wiring.{wire_of}
 use Rattle.link_laws.specs.Premises.{Clean, GivesPhase, Undamaged}
 use Rattle.link_laws.proofs.Phases.{HasEdges}
 use Rattle.link_laws.proofs.SessionStages.{Goes, first-low}
@@ -63,31 +64,31 @@ module _ (s : Plan) (h t : ℕ) (g : Goes lanes_c s h t) (lane u : ℕ)
       → StandsFor s h lane x q
       → 66 * (h + 1) ≤ 66 * first_tick lanes_c s h + (x + 66 * n) → x + 66 * suc n ≤ length bs
       → take 66 (drop (x + 66 * n) bs) ≡ block_of s.link.params
-      (octets_from s lane (edge_tick s Tx i) (suc u)) (q + n - edge_tick s Tx i)
+      (octets_from s (wire_of s lane) (edge_tick s Tx i) (suc u)) (q + n - edge_tick s Tx i)
   block-of-place x q i n clean gives from is after inside =
       let long = length-session-bits s h t g lane u low up e mode below in
       let there : StandsFor s h lane (x + 66 * n) (q + n) = omega arith in
       block-taken s h t g lane u low up e mode below (x + 66 * n) (q + n) clean after
       (omega arith) there
-      ∙ sent-block s lane (q + n) i (suc u) e mode below
+      ∙ sent-block s (wire_of s lane) (q + n) i (suc u) e mode (e.wired lane below)
       (gives-since s Tx t (q + n) i gives from (omega arith)) (omega arith)
 
   -- the headers carry its sync bits
   pub carries-grid : (x q i : ℕ) → GivesPhase s Tx t i → edge_tick s Tx i ≤ q
       → StandsFor s h lane x q
       → CarriesSync bs x
-      (λ n. word_bit s.link.params (octets_from s lane (edge_tick s Tx i) (suc u))
+      (λ n. word_bit s.link.params (octets_from s (wire_of s lane) (edge_tick s Tx i) (suc u))
       (q - edge_tick s Tx i + n))
   carries-grid x q i gives from is n some inside =
       let f = first-low lanes_c s h t g in
-      let os = octets_from s lane (edge_tick s Tx i) (suc u) in
+      let os = octets_from s (wire_of s lane) (edge_tick s Tx i) (suc u) in
       let long = length-session-bits s h t g lane u low up e mode below in
       let there : StandsFor s h lane (x + 66 * n) (q + n) = omega arith in
       let number : q + n - edge_tick s Tx i ≡ q - edge_tick s Tx i + n = omega arith in
       header-taken s h t g lane u low up e mode below (x + 66 * n) (q + n) damage (omega arith)
       (omega arith) there
       ∙ ap header
-      (sent-block s lane (q + n) i (suc u) e mode below
+      (sent-block s (wire_of s lane) (q + n) i (suc u) e mode (e.wired lane below)
       (gives-since s Tx t (q + n) i gives (omega arith) (omega arith)) (omega arith))
       ∙ header-of-block (word_bit s.link.params os (q + n - edge_tick s Tx i)) _
       ∙ ap (λ (m : ℕ). header_of (word_bit s.link.params os m)) number

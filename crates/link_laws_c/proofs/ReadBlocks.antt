@@ -19,6 +19,7 @@ use Rattle.lane_c.specs.Sent.{part_of, payload_of}
 use Rattle.lane_c.specs.Statuses.{Checked, Judged, known_blocks, status_of}
 use Rattle.lane_c.specs.Received.{cell, lanes_c}
 use Rattle.link_model.specs.Sessions.{at}
+use Rattle.link_model.specs.Wiring.{wire_of}
 use Rattle.link_laws.specs.Premises.{Clean}
 use Rattle.link_laws.proofs.SessionStages.{first-high, first-low}
 use Rattle.link_laws_c.proofs.CleanMultiblocks.{block-of-multiblock, multiblock-ok}
@@ -61,7 +62,7 @@ module _ (s : Plan) (h t lane : ℕ) (c : InSessionC s h t lane) (p : Place)
   x0 = edge_tick s Tx k.sent.edge
 
   abbrev octets : List ℕ
-  octets = octets_from s lane x0 (suc t)
+  octets = octets_from s (wire_of s lane) x0 (suc t)
 
   abbrev number_of : ℕ → ℕ
   number_of j = (k.sent.q + 32 * j - x0) / 32
@@ -106,7 +107,7 @@ module _ (s : Plan) (h t lane : ℕ) (c : InSessionC s h t lane) (p : Place)
       let there : StandsFor s h lane (p.first + 66 * n) (k.sent.q + n) = omega arith in
       header-taken s h t g lane t (omega arith) (omega arith) e c.mode c.below (p.first + 66 * n)
       (k.sent.q + n) c.damage (omega arith) (omega arith) there
-      ∙ ap header (sent-block s lane (k.sent.q + n) k.sent.edge (suc t) e c.mode c.below
+      ∙ ap header (sent-block s (wire_of s lane) (k.sent.q + n) k.sent.edge (suc t) e c.mode (e.wired lane c.below)
       (gives-since s Tx t (k.sent.q + n) k.sent.edge k.sent.gives from (omega arith)) (omega arith))
       ∙ header-of-block (word_bit s.link.params octets (k.sent.q + n - x0)) _
 
@@ -169,7 +170,7 @@ module _ (s : Plan) (h t lane : ℕ) (c : InSessionC s h t lane) (p : Place)
 
   -- the cell of block n + 1
   pub record IsCell (n : ℕ) (x : LaneCell) : Type 0 where
-    pub octets_are : x.value ≡ slice_index (at lanes_c s (k.sent.q + suc n)).handed lane
+    pub octets_are : x.value ≡ slice_index (at lanes_c s (k.sent.q + suc n)).handed (wire_of s lane)
     pub not_bad : x.mark ≢ Bad
     pub clean : Clean s h t → x.mark ≡ Good
 
@@ -184,15 +185,15 @@ module _ (s : Plan) (h t lane : ℕ) (c : InSessionC s h t lane) (p : Place)
       let xs : List Bool = payload_of octets in
       let m : ℕ = k.sent.q + n - x0 in
       let next : k.sent.q + suc n - x0 ≡ suc m = omega arith in
-      let count = length-octets s lane x0 (suc t) in
-      let f : ℕ → ℕ = λ q. slice_index (at lanes_c s q).handed lane in
+      let count = length-octets s (wire_of s lane) x0 (suc t) in
+      let f : ℕ → ℕ = λ q. slice_index (at lanes_c s q).handed (wire_of s lane) in
       let long = length-numbers (suc t) x0 in
       let tick : x0 + suc m ≡ k.sent.q + suc n = omega arith in
       let handed : get_or octets (suc m) 0 ≡ slice_index (at lanes_c s (k.sent.q + suc n)).handed
-      lane =
+      (wire_of s lane) =
       get_or-map f (numbers_from x0 (suc t)) (suc m) 0 0 (omega arith)
       ∙ ap f (get_or-numbers (suc t) (suc m) x0 0 (omega arith) ∙ tick) in
-      let small = handed-below s (k.sent.q + suc n) lane c.mode in
+      let small = handed-below s (k.sent.q + suc n) (wire_of s lane) c.mode in
       let a = before.is d in
       let b = own.is d in
       record {

@@ -19,6 +19,7 @@ use Rattle.multiblock.specs.laws.PlaceLaws.{IsLeastPlace}
 use Rattle.multiblock.proofs.PlaceLemmas.{finds_least_place}
 use Rattle.lane_c.specs.Received.{lanes_c}
 use Rattle.link_model.specs.Sessions.{first_tick}
+use Rattle.link_model.specs.Wiring.{wire_of}
 use Rattle.link_laws.specs.Premises.{Clean, arrival}
 use Rattle.link_laws.specs.LaneLaws.{LaneSender}
 use Rattle.link_laws.specs.Laws.{IsPlanRead}
@@ -76,10 +77,11 @@ module _ (s : Plan) (h t lane : ℕ) (read : IsPlanRead s) (mode : is_b s.link.p
   ]
 
   -- so it sent zeros alone
-  sent-zero : (k : ℕ) → 66 * h ≤ k → k < 66 * suc t → sent_bit s lane k ≡ false
+  sent-zero : (k : ℕ) → 66 * h ≤ k → k < 66 * suc t → sent_bit s (wire_of s lane) k ≡ false
   sent-zero k low up =
       ap (λ (l : List Bool). get_or l (k % 66) false)
-      (sent-silent s lane (k / 66) (has-edges s read) mode below
+      (sent-silent s (wire_of s lane) (k / 66) (has-edges s read) mode
+      ((has-edges s read).wired lane below)
       (no-phase (k / 66) (omega arith) (omega arith)))
       ∙ zero-bit 66 (k % 66)
 

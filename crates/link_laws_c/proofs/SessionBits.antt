@@ -15,6 +15,7 @@ use Rattle.link_model.specs.Receives.{taken_in}
 use Rattle.block_66b.specs.Blocks.{header}
 use Rattle.lane_c.specs.Received.{lanes_c}
 use Rattle.link_model.specs.Sessions.{at, first_tick, taken_at}
+use Rattle.link_model.specs.Wiring.{wire_of}
 use Rattle.link_laws.specs.Premises.{Clean, Undamaged}
 use Rattle.link_laws.proofs.Phases.{HasEdges}
 use Rattle.link_model.proofs.RunTicks.{length-run, run-suc}
@@ -161,14 +162,14 @@ module _ (s : Plan) (h t : ℕ) (g : Goes lanes_c s h t) (lane u : ℕ)
   pub block-taken : (x q : ℕ) → Clean s h t → 66 * (h + 1) ≤ 66 * first_tick lanes_c s h + x
       → x + 66 ≤ 66 * (suc u - first_tick lanes_c s h)
       → 66 * q + delay_at s lane h ≡ 66 * first_tick lanes_c s h + x
-      → take 66 (drop x (bits_at lanes_c s lane u)) ≡ sent_at s lane q
+      → take 66 (drop x (bits_at lanes_c s lane u)) ≡ sent_at s (wire_of s lane) q
   block-taken x q clean after inside from =
       let bs : List Bool = bits_at lanes_c s lane u in
       let long = length-session-bits in
-      let sent_long = length-sent s lane q e mode below in
+      let sent_long = length-sent s (wire_of s lane) q e mode (e.wired lane below) in
       let rest = length-drop x bs in
       let size : length (take 66 (drop x bs)) ≡ 66 = length-take 66 (drop x bs) ∙ omega arith in
-      ext_get_or false (take 66 (drop x bs)) (sent_at s lane q) (omega arith) (λ i under.
+      ext_get_or false (take 66 (drop x bs)) (sent_at s (wire_of s lane) q) (omega arith) (λ i under.
       let fst : ℕ = first_tick lanes_c s h in
       let p : ℕ = fst + (x + i) / 66 in
       let j : ℕ = (x + i) % 66 in
@@ -179,20 +180,20 @@ module _ (s : Plan) (h t : ℕ) (g : Goes lanes_c s h t) (lane u : ℕ)
       ∙ bit-of-session (x + i) (omega arith)
       ∙ bit-clean s lane h t p j e mode below clean (omega arith) (omega arith) (omega arith)
       (omega arith)
-      ∙ ap (sent_bit s lane) at_bit ∙ ap₂ (λ (m n : ℕ). get_or (sent_at s lane m) n false) tick
+      ∙ ap (sent_bit s (wire_of s lane)) at_bit ∙ ap₂ (λ (m n : ℕ). get_or (sent_at s (wire_of s lane) m) n false) tick
       place)
 
   -- of an undamaged line its header is taken
   pub header-taken : (x q : ℕ) → Undamaged s h t → 66 * (h + 1) ≤ 66 * first_tick lanes_c s h + x
       → x + 66 ≤ 66 * (suc u - first_tick lanes_c s h)
       → 66 * q + delay_at s lane h ≡ 66 * first_tick lanes_c s h + x
-      → header (drop x (bits_at lanes_c s lane u)) ≡ header (sent_at s lane q)
+      → header (drop x (bits_at lanes_c s lane u)) ≡ header (sent_at s (wire_of s lane) q)
   header-taken x q whole after inside from =
       let bs : List Bool = bits_at lanes_c s lane u in
       let long = length-session-bits in
-      let sent_long = length-sent s lane q e mode below in
+      let sent_long = length-sent s (wire_of s lane) q e mode (e.wired lane below) in
       let rest = length-drop x bs in
-      let bit : (i : ℕ) → i < 2 → get_or (drop x bs) i false ≡ get_or (sent_at s lane q) i false =
+      let bit : (i : ℕ) → i < 2 → get_or (drop x bs) i false ≡ get_or (sent_at s (wire_of s lane) q) i false =
       λ i under.
       let p : ℕ = first_tick lanes_c s h + (x + i) / 66 in
       let j : ℕ = (x + i) % 66 in
@@ -203,7 +204,7 @@ module _ (s : Plan) (h t : ℕ) (g : Goes lanes_c s h t) (lane u : ℕ)
       get_or-drop x bs i false ∙ bit-of-session (x + i) (omega arith)
       ∙ bit-of-header s lane h t p j e mode below whole (omega arith) (omega arith) (omega arith)
       (omega arith) early
-      ∙ ap (sent_bit s lane) at_bit ∙ ap₂ (λ (m n : ℕ). get_or (sent_at s lane m) n false) tick
+      ∙ ap (sent_bit s (wire_of s lane)) at_bit ∙ ap₂ (λ (m n : ℕ). get_or (sent_at s (wire_of s lane) m) n false) tick
       place in
-      header-by-bits (drop x bs) (sent_at s lane q) (omega arith) (omega arith)
+      header-by-bits (drop x bs) (sent_at s (wire_of s lane) q) (omega arith) (omega arith)
       (bit 0 (omega arith)) (bit 1 (omega arith))

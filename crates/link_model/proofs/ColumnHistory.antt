@@ -16,20 +16,27 @@ use Rattle.link_model.proofs.Depth.{HasDepth, ready, tick-outcome, word-size}
 use Rattle.link_model.proofs.EntryCells.{HasCells, cells-of-entries}
 use Rattle.link_model.proofs.KindFacts.{KindFacts, entries-grow, lead}
 use Rattle.link_model.proofs.LaneHistory.{HasHunt, gave-next, session-goes-on, session-hunt, took-stepped}
-use Rattle.link_model.proofs.NextMoment.{lanes_of, next, took, with_next}
+use Rattle.link_model.proofs.NextMoment.{entries_of, lanes_of, next, took, with_next}
 use Rattle.link_model.proofs.NumberLists.{map-numbers}
 use Rattle.link_model.proofs.OctetColumns.{grid, grid-is, grid-next, length-grid, length-octets, octets-given-are, all_octets}
 use Rattle.link_model.proofs.WindowFacts.{IsLegal}
+use Rattle.link_model.proofs.Wirings.{lane-for-below}
 use Rattle.link_model.specs.kept.Before.{Columns, columns_now, current, no_cell, octet_columns}
 use Rattle.link_model.specs.Gives.{cells_in, gives_in, octets_given}
 use Rattle.link_model.specs.Hunts.{from_hunt, session}
 use Rattle.link_model.specs.kept.LaneRuns.{given_by, lane_stepped}
 use Rattle.link_model.specs.Moments.{History}
 use Rattle.link_model.specs.Receives.{taken_in, told_of}
+use Rattle.link_model.specs.Wiring.{lane_for, route_of}
 
--- the entries of a lane in the session, with the tick
+-- the entries for a lane of the frame in the session, with the tick
 abbrev pub came : LaneKind → Plan → History → ℕ → List Entry
-came k s h lane = k.entries s.link.params s.link.timing lane (took k s h lane)
+came k s h place = entries_of k s h (lane_for s place)
+
+-- and those before it
+abbrev pub had : LaneKind → Plan → History → ℕ → List Entry
+had k s h place = let lane = lane_for s place in
+    k.entries s.link.params s.link.timing (route_of s lane) (taken_in (session s h) lane)
 
 -- the data among them
 abbrev pub data_of : LaneKind → Plan → History → ℕ → List LaneCell
@@ -43,7 +50,7 @@ cells_after s n = n - lead s.link.params
 abbrev pub columns_after : Plan → ℕ → ℕ
 columns_after s n = octets_per_tick s.link.params * cells_after s n
 
--- the cell that a lane gives
+-- the cell that is given for a lane of the frame
 abbrev pub cell_given : LaneKind → Plan → History → ℕ → LaneCell
 cell_given k s h lane =
     get_or (data_of k s h lane) (cells_after s (gives_in (session s h))) no_cell
@@ -52,15 +59,15 @@ cell_given k s h lane =
 abbrev pub column : LaneKind → Plan → History → List LaneCell
 column k s h = map (cell_given k s h) (lanes_of s)
 
--- all octets of a lane in the session, with the tick
+-- all octets for a lane of the frame in the session, with the tick
 abbrev pub octets_came : LaneKind → Plan → History → ℕ → List LaneCell
 octets_came k s h lane = all_octets s.link.params (data_of k s h lane)
 
 -- those that a lane gave in the ticks of a session
 abbrev octets_in_ticks : LaneKind → Plan → History → ℕ → List LaneCell
-octets_in_ticks k s past lane =
+octets_in_ticks k s past place = let lane = lane_for s place in
     octets_given s.link.params (gives_in past)
-    (k.entries s.link.params s.link.timing lane (taken_in past lane))
+    (k.entries s.link.params s.link.timing (route_of s lane) (taken_in past lane))
 
 -- and the columns of all lanes
 abbrev columns_in : LaneKind → Plan → History → Columns
@@ -93,17 +100,14 @@ kept-are k s h = elim (cases_Bool (next k s h).told.hunt) [
       ∙ sym (ap (columns_in k s) (session-goes-on k s h e))
 ]
 
--- what a lane of a run has in a tick: places of the alignment sequence and then data, as many
+-- what there is for a lane of the frame in a tick: places of the alignment sequence and then data, as many
 -- entries as the lanes give, those before the tick first
 pub record LaneHas (k : LaneKind) (s : Plan) (h : History) (lane : ℕ) : Type 0 where
   pub cells : HasCells (lead s.link.params) (came k s h lane)
   pub within : gives_in (session s h) + (if is_running (next k s h).stage then 1 else 0)
       ≤ length (came k s h lane)
-  pub before : gives_in (session s h)
-      ≤ length (k.entries s.link.params s.link.timing lane (taken_in (session s h) lane))
-  pub grew : (new : List Entry)
-      × (came k s h lane
-      ≡ k.entries s.link.params s.link.timing lane (taken_in (session s h) lane) ++ new)
+  pub before : gives_in (session s h) ≤ length (had k s h lane)
+  pub grew : (new : List Entry) × (came k s h lane ≡ had k s h lane ++ new)
 
 abbrev pub LanesHave : LaneKind → Plan → History → Type 0
 LanesHave k s h = (lane : ℕ) → lane < s.link.params.l → LaneHas k s h lane
@@ -115,15 +119,18 @@ HaveDepth k s h = (lane : ℕ) → lane < s.link.params.l → HasDepth k s h lan
 pub lanes-have : (k : LaneKind) (s : Plan) (h : History)
     → KindFacts k s.link.params s.link.timing → IsLegal s.link.params s.link.timing
     → HaveDepth k s h → LanesHave k s h
-lanes-have k s h facts legal kept lane below =
+lanes-have k s h facts legal kept place inside =
+    let lane : ℕ = lane_for s place in
+    let below = lane-for-below s place (omega arith) in
     let r = ready k s h lane facts legal (kept lane below) in
     let w : Taken = record { order = told_of s h; word = get_or (next k s h).taken lane [] } in
     record {
-      cells = cells-of-entries s.link.params (came k s h lane) (facts.are lane (took k s h lane));
+      cells = cells-of-entries s.link.params (came k s h place)
+          (facts.are (route_of s lane) (took k s h lane));
       within = (tick-outcome k s h lane facts legal below (kept lane below)).within;
       before = r.within;
-      grew = entries-grow k s.link.params s.link.timing facts lane (taken_in (session s h) lane) w
-          r.ticks (word-size k s h lane below) r.on;
+      grew = entries-grow k s.link.params s.link.timing facts (route_of s lane)
+          (taken_in (session s h) lane) w r.ticks (word-size k s h lane below) r.on;
     }
 
 module _ (k : LaneKind) (s : Plan) (h : History) (facts : KindFacts k s.link.params s.link.timing)
@@ -156,7 +163,8 @@ module _ (k : LaneKind) (s : Plan) (h : History) (facts : KindFacts k s.link.par
       ≡ take (columns_after s (gave + one)) (octets_came k s h lane)
   now-octets lane below =
       ap₂ (λ (n : ℕ) (es : List Entry). octets_given s.link.params n es) (gave-next k s h begun)
-      (ap (k.entries s.link.params s.link.timing lane) (sym (took-stepped k s h lane begun)))
+      (ap (k.entries s.link.params s.link.timing (route_of s (lane_for s lane)))
+      (sym (took-stepped k s h (lane_for s lane) begun)))
       ∙ octets-given-are s.link.params (lead s.link.params) (gave + one) (came k s h lane)
       (have lane below).cells
 
@@ -167,8 +175,7 @@ module _ (k : LaneKind) (s : Plan) (h : History) (facts : KindFacts k s.link.par
   old-octets lane below =
       let has = have lane below in
       let g = has.grew in
-      let old : List Entry =
-      k.entries s.link.params s.link.timing lane (taken_in (session s h) lane) in
+      let old : List Entry = had k s h lane in
       ap (λ (es : List Entry). all_octets s.link.params (cells_in es))
       (sym (take-append-le gave old g.0 has.before) ∙ ap (take gave) (sym g.1))
       ∙ octets-given-are s.link.params (lead s.link.params) gave (came k s h lane) has.cells
@@ -252,14 +259,15 @@ module _ (k : LaneKind) (s : Plan) (h : History) (facts : KindFacts k s.link.par
   -- ---- what each lane gives
 
   stepped-entries : (lane : ℕ)
-      → k.entries s.link.params s.link.timing lane (lane_stepped k s h lane).taken
+      → k.entries s.link.params s.link.timing (route_of s (lane_for s lane))
+      (lane_stepped k s h (lane_for s lane)).taken
       ≡ came k s h lane
-  stepped-entries lane = ap (k.entries s.link.params s.link.timing lane)
-      (sym (took-stepped k s h lane begun))
+  stepped-entries lane = ap (k.entries s.link.params s.link.timing (route_of s (lane_for s lane)))
+      (sym (took-stepped k s h (lane_for s lane) begun))
 
   -- in the alignment sequence nothing
   pub gives-none : (lane : ℕ) → lane < s.link.params.l → gave < lead s.link.params
-      → given_by k s (λ l. lane_stepped k s h l) lane ≡ None
+      → given_by k s (λ l. lane_stepped k s h l) (lane_for s lane) ≡ None
   gives-none lane below early =
       ap (λ (es : List Entry). given (get_or es gave Placed)) (stepped-entries lane)
       ∙ (have lane below).cells.none gave early
@@ -267,26 +275,9 @@ module _ (k : LaneKind) (s : Plan) (h : History) (facts : KindFacts k s.link.par
   -- then a cell
   pub gives-some : (lane : ℕ) → lane < s.link.params.l → (next k s h).stage ≡ stage.Run
       → lead s.link.params ≤ gave
-      → given_by k s (λ l. lane_stepped k s h l) lane ≡ Some (cell_given k s h lane)
+      → given_by k s (λ l. lane_stepped k s h l) (lane_for s lane) ≡ Some (cell_given k s h lane)
   gives-some lane below runs late =
       let one_more : gave + one ≡ gave + 1 = rw runs refl in
       let within = (have lane below).within in
       ap (λ (es : List Entry). given (get_or es gave Placed)) (stepped-entries lane)
       ∙ (have lane below).cells.some gave late (omega arith)
-
-  -- all lanes at once
-  pub all-give-none : gave < lead s.link.params
-      → map (given_by k s (λ l. lane_stepped k s h l)) (lanes_of s) ≡ map (λ (c : LaneCell). None)
-      (column k s h)
-  all-give-none early =
-      map-numbers (given_by k s (λ l. lane_stepped k s h l)) (λ l. None) s.link.params.l 0
-      (λ lane below. gives-none lane (omega arith) early)
-      ∙ sym (map-map (λ (c : LaneCell). None) (cell_given k s h) (lanes_of s))
-
-  pub all-give-some : (next k s h).stage ≡ stage.Run → lead s.link.params ≤ gave
-      → map (given_by k s (λ l. lane_stepped k s h l)) (lanes_of s) ≡ map (λ c. Some c)
-      (column k s h)
-  all-give-some runs late =
-      map-numbers (given_by k s (λ l. lane_stepped k s h l)) (λ l. Some (cell_given k s h l))
-      s.link.params.l 0 (λ lane below. gives-some lane (omega arith) runs late)
-      ∙ sym (map-map (λ c. Some c) (cell_given k s h) (lanes_of s))

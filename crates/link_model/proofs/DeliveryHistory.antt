@@ -8,7 +8,7 @@ use Rattle.std.proofs.lemmas.Simd.{map-map}
 use Rattle.link_params.specs.declared.fields.Params.{Params}
 use Rattle.link_params.specs.declared.cells.LaneCell.{LaneCell}
 use Rattle.link_params.specs.Laws.{broken_law, is_b}
-use Rattle.link_params.specs.Lanes.{LaneKind}
+use Rattle.link_params.specs.Lanes.{Entry, LaneKind}
 use Rattle.link_params.specs.TimingLaws.{broken_timing}
 use Rattle.link_params.proofs.LawFacts.{legal_sizes}
 use Rattle.link_params.specs.Numbers.{octets_per_tick}
@@ -21,18 +21,20 @@ use Rattle.link_model.proofs.FactsOf.{facts-of}
 use Rattle.link_model.proofs.FrameCells.{frame-cells-grid}
 use Rattle.link_model.proofs.KindFacts.{KindFacts, lead}
 use Rattle.link_model.proofs.LaneHistory.{HasHunt, has-hunt-run, session-goes-on, session-hunt}
-use Rattle.link_model.proofs.NextMoment.{delivered-next, lanes_of, next, with_next}
+use Rattle.link_model.proofs.NextMoment.{delivered-next, entries_of, lanes_of, next, with_next}
 use Rattle.link_model.proofs.NumberLists.{get_or-numbers, length-numbers, map-numbers}
 use Rattle.link_model.proofs.OctetColumns.{grid, octets-given-are}
 use Rattle.link_model.proofs.RunTicks.{length-run}
 use Rattle.link_model.proofs.WholeFrames.{delivered-none, div-le, frame_at, whole-part}
 use Rattle.link_model.proofs.WindowFacts.{IsLegal, legal}
+use Rattle.link_model.proofs.Wirings.{by-frame-map}
 use Rattle.link_model.specs.kept.Before.{Columns, cells_of, columns_now, current, delivered_at, mark_of, values_of}
 use Rattle.link_model.specs.Gives.{frame_cells, frame_given, frames_given, frames_in, gives_in, octets_given}
 use Rattle.link_model.specs.Hunts.{from_hunt, or_else, session}
 use Rattle.link_model.specs.Kinds.{kind_of, moment_of, run_of}
 use Rattle.link_model.specs.Moments.{Delivered, History, Moment}
 use Rattle.link_model.specs.Run.{run}
+use Rattle.link_model.specs.Wiring.{by_frame}
 
 -- ---- the session is a part of the history
 
@@ -228,6 +230,17 @@ module _ (k : LaneKind) (s : Plan) (h : History) (facts : KindFacts k s.link.par
         (numbers_from (a / p.f) (b / p.f - a / p.f)))
         (sym (length-kept k s h facts legal some begun kept)) (sym long-now)
 
+  -- the entries are in the order of the lanes of the frame
+  delivered-by-frame : (next k s h).delivered ≡ (if is_running (next k s h).stage
+      then frames_given s.link.params (length h - gives_in (session s h)) (gives_in (session s h))
+      (map (came k s h) (lanes_of s)) else [])
+  delivered-by-frame =
+      let g : ℕ = gives_in (session s h) in
+      delivered-next k s h
+      ∙ ap (λ (es : List (List Entry)). if is_running (next k s h).stage
+      then frames_given s.link.params (length h - g) g es else [])
+      (by-frame-map (entries_of k s h) s [] some)
+
   -- the frames that leave in the tick
   pub delivered-columns : (next k s h).delivered
       ≡ delivered_at s.link.params (octets_per_tick s.link.params * (length h + 1))
@@ -241,7 +254,7 @@ module _ (k : LaneKind) (s : Plan) (h : History) (facts : KindFacts k s.link.par
       frames_given p (length h - g) g (map (came k s h) (lanes_of s)) in
       elim (cases_Bool (is_running (next k s h).stage)) [
         | inl runs ↦
-            delivered-next k s h ∙ cond-true (is_running (next k s h).stage) given [] runs
+            delivered-by-frame ∙ cond-true (is_running (next k s h).stage) given [] runs
             ∙ frames-are runs
         | inr still ↦
             let none : g + (if is_running (next k s h).stage then 1 else 0) ≡ g =
@@ -249,7 +262,7 @@ module _ (k : LaneKind) (s : Plan) (h : History) (facts : KindFacts k s.link.par
             let same : length columns ≡ length (columns_kept k s h) =
             length-columns k s h facts legal some begun kept ∙ ap (columns_after s) none
             ∙ sym (length-kept k s h facts legal some begun kept) in
-            delivered-next k s h ∙ cond-false (is_running (next k s h).stage) given [] still
+            delivered-by-frame ∙ cond-false (is_running (next k s h).stage) given [] still
             ∙ sym (delivered-none p end (length (columns_kept k s h)) columns same)
       ]
 
@@ -275,7 +288,7 @@ delivered-still k s h e =
     delivered-next k s h
     ∙ cond-false (is_running (next k s h).stage)
     (frames_given s.link.params (length h - gives_in (session s h)) (gives_in (session s h))
-    (map (came k s h) (lanes_of s))) [] e
+    (by_frame s [] (map (entries_of k s h) (lanes_of s)))) [] e
 
 -- the frames that leave in a tick of a run, whatever its mode
 pub delivered-run : (s : Plan) (t : ℕ) → broken_law s.link.params ≡ None

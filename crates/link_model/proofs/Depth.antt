@@ -1,6 +1,6 @@
 -- No lane's buffer holds more entries than it has room for, and each lane has an entry to give
 -- while the lanes run.
-use Rattle.std.proofs.Common.{◌≡◌, ℕ, zero, suc, ◌+◌, ◌-◌, ◌%◌, ◌<◌, ◌≤◌, Bool, true, false, ◌||◌, if◌then◌else◌, List, [], ◌∷◌, ◌++◌, length, get_or, Option, Some, None, inl, inr, refl, sym, ap, ◌∙◌, arith}
+use Rattle.std.proofs.Common.{◌≡◌, ℕ, zero, suc, ◌+◌, ◌-◌, ◌%◌, ◌<◌, ◌≤◌, Bool, true, false, not, ◌||◌, if◌then◌else◌, List, [], ◌∷◌, ◌++◌, length, get_or, Option, Some, None, inl, inr, refl, sym, ap, ◌∙◌, arith}
 use Rattle.std.proofs.lemmas.Bool.{cases_Bool, or_parts}
 use Rattle.std.proofs.lemmas.List.{get_or-map, length-map}
 use Rattle.link_params.specs.declared.alarms.Device.TheVariants.{Rx}
@@ -20,19 +20,21 @@ use Rattle.link_model.proofs.ArmedHistory.{HasArmed, arming, armed-next, armed-s
 use Rattle.link_model.proofs.DecisionCases.{no_report}
 use Rattle.link_model.proofs.KindFacts.{AreTicks, AreWords, KindFacts, are-words-more, started_by}
 use Rattle.link_model.proofs.LaneDepth.{InHunt, LaneIn, Outcome, lane-step, room-in}
-use Rattle.link_model.proofs.LaneHistory.{HasHunt, current-session, gives-in-more, has-hunt-run, hunt-next, session-goes-on, session-hunt, took-stepped, word-lane}
+use Rattle.link_model.proofs.LaneHistory.{HasHunt, current-session, gives-in-more, has-hunt-run, hunt-next, session-goes-on, session-hunt, taken-lane, took-stepped}
 use Rattle.link_model.proofs.NextMoment.{decided-next, decides-next, lanes_of, next, reports-next, stage-next, took, with_next}
 use Rattle.link_model.proofs.NumberLists.{get_or-numbers, length-numbers}
 use Rattle.link_model.proofs.RxHistory.{ends-in-hunt-more, stage-standing, standing-after-none, standing-kept, standing-reset, standing_after}
 use Rattle.link_model.proofs.TxHistory.{length-more}
 use Rattle.link_model.proofs.WindowFacts.{IsLegal, legal, phase-next}
 use Rattle.link_model.specs.kept.Before.{current, entries_now}
+use Rattle.link_model.specs.Carried.{received, with_polarity}
 use Rattle.link_model.specs.Edges.{is_reset, phase}
 use Rattle.link_model.specs.Gives.{gives_in}
 use Rattle.link_model.specs.Hunts.{begins_hunt, ends_in_hunt, from_hunt, session, standing}
 use Rattle.link_model.specs.Moments.{History, Moment}
 use Rattle.link_model.specs.Receives.{taken_in, told_of}
 use Rattle.link_model.specs.Run.{run}
+use Rattle.link_model.specs.Wiring.{has_inverted_polarity, route_of}
 
 -- ---- what a lane takes
 
@@ -48,19 +50,27 @@ length-line-word w sent flips d dead =
     length-map (line.numbers_from (length sent - w) w) (line_bit sent flips d dead)
     ∙ length-places w (length sent - w)
 
+length-with-polarity : (b : Bool) (word : List Bool) → length (with_polarity b word) ≡ length word
+length-with-polarity true word = length-map word not
+length-with-polarity false word = refl
+
 -- each tick has the bits of a word
 pub word-size : (kind : LaneKind) (s : Plan) (h : History) (lane : ℕ) → lane < s.link.params.l
     → length (get_or (next kind s h).taken lane []) ≡ width s.link.params
-word-size kind s h lane below = ap length (word-lane kind s h lane below)
+unfolding received
+word-size kind s h lane below =
+    ap length (taken-lane kind s h lane below)
+    ∙ length-with-polarity (has_inverted_polarity s lane) _
     ∙ length-line-word (width s.link.params) _ _ _ _
 
 -- the report of a lane
 pub report-lane : (kind : LaneKind) (s : Plan) (h : History) (lane : ℕ) → lane < s.link.params.l
-    → get_or (next kind s h).reports lane no_report ≡ kind.report s.link.params s.link.timing lane
-    (took kind s h lane)
+    → get_or (next kind s h).reports lane no_report
+    ≡ kind.report s.link.params s.link.timing (route_of s lane) (took kind s h lane)
 report-lane kind s h lane below =
     let long = length-numbers s.link.params.l 0 in
-    let f : ℕ → LaneReport = λ l. kind.report s.link.params s.link.timing l (took kind s h l) in
+    let f : ℕ → LaneReport =
+    λ l. kind.report s.link.params s.link.timing (route_of s l) (took kind s h l) in
     let same : 0 + lane ≡ lane = omega arith in
     ap (λ (l : List LaneReport). get_or l lane no_report) (reports-next kind s h)
     ∙ get_or-map f (lanes_of s) lane 0 no_report (omega arith)
@@ -70,7 +80,8 @@ pub length-reports : (kind : LaneKind) (s : Plan) (h : History)
     → length (next kind s h).reports ≡ s.link.params.l
 length-reports kind s h =
     ap length (reports-next kind s h)
-    ∙ length-map (lanes_of s) (λ l. kind.report s.link.params s.link.timing l (took kind s h l))
+    ∙ length-map (lanes_of s)
+    (λ l. kind.report s.link.params s.link.timing (route_of s l) (took kind s h l))
     ∙ length-numbers s.link.params.l 0
 
 -- ---- what is kept
@@ -87,7 +98,7 @@ pub record HasDepth (kind : LaneKind) (s : Plan) (h : History) (lane : ℕ) : Ty
   pub in_hunt : ends_in_hunt h ≡ true → (standing_after s h).stage ≡ stage.Hunt
   pub goes : ends_in_hunt h ≡ false → LaneIn (standing_after s h).stage s.link.params s.link.timing
       (phase_before s (length h))
-      (started_by kind s.link.params s.link.timing lane (taken_in (current h) lane))
+      (started_by kind s.link.params s.link.timing (route_of s lane) (taken_in (current h) lane))
       (length (entries_now kind s h lane)) (gives_in (current h))
   pub within : gives_in (current h) ≤ length (entries_now kind s h lane)
   pub fits : length (entries_now kind s h lane) - gives_in (current h)
@@ -98,10 +109,10 @@ pub record IsReady (kind : LaneKind) (s : Plan) (h : History) (lane : ℕ) : Typ
   pub ticks : AreTicks (width s.link.params) (taken_in (session s h) lane)
   pub on : IsArmedOn (taken_in (session s h) lane) (told_of s h)
   pub within : gives_in (session s h)
-      ≤ length (kind.entries s.link.params s.link.timing lane (taken_in (session s h) lane))
+      ≤ length (kind.entries s.link.params s.link.timing (route_of s lane) (taken_in (session s h) lane))
   pub lane_in : LaneIn (standing s h).stage s.link.params s.link.timing (phase_before s (length h))
-      (started_by kind s.link.params s.link.timing lane (taken_in (session s h) lane))
-      (length (kind.entries s.link.params s.link.timing lane (taken_in (session s h) lane)))
+      (started_by kind s.link.params s.link.timing (route_of s lane) (taken_in (session s h) lane))
+      (length (kind.entries s.link.params s.link.timing (route_of s lane) (taken_in (session s h) lane)))
       (gives_in (session s h))
   pub phases : (x : ℕ) → phase_before s (length h) ≡ Some x → (standing s h).stage ≡ stage.Wait
       → phase s Rx (length h) ≡ Some ((x + 1) % period s.link.params)
@@ -110,10 +121,10 @@ ready-hunt : (kind : LaneKind) (s : Plan) (h : History) (lane : ℕ) → session
     → (standing s h).stage ≡ stage.Hunt → KindFacts kind s.link.params s.link.timing → HasArmed s h
     → IsReady kind s h lane
 ready-hunt kind s h lane none hunts facts armed =
-    let u = facts.nothing lane in
+    let u = facts.nothing (route_of s lane) in
     let a = arming kind s h lane armed in
-    let here : InHunt (started_by kind s.link.params s.link.timing lane [])
-    (length (kind.entries s.link.params s.link.timing lane [])) 0 =
+    let here : InHunt (started_by kind s.link.params s.link.timing (route_of s lane) [])
+    (length (kind.entries s.link.params s.link.timing (route_of s lane) [])) 0 =
     record { unstarted = u.started; empty = ap length u.entries; gave = refl } in
     record {
       ticks = record {
@@ -171,8 +182,8 @@ pub tick-outcome : (kind : LaneKind) (s : Plan) (h : History) (lane : ℕ)
     → lane < s.link.params.l → HasDepth kind s h lane
     → Outcome s.link.params s.link.timing (next kind s h).decided.decision (next kind s h).stage
     (phase s Rx (length h))
-    (started_by kind s.link.params s.link.timing lane (took kind s h lane))
-    (length (kind.entries s.link.params s.link.timing lane (took kind s h lane)))
+    (started_by kind s.link.params s.link.timing (route_of s lane) (took kind s h lane))
+    (length (kind.entries s.link.params s.link.timing (route_of s lane) (took kind s h lane)))
     (gives_in (session s h))
 unfolding told_of
 tick-outcome kind s h lane facts l below kept =
@@ -193,10 +204,10 @@ tick-outcome kind s h lane facts l below kept =
     (decide p t before.stage before.since m.reports).decision).stage else before.stage) =
     stage-next kind s h in
     let long = length-reports kind s h in
-    lane-step p t l kind facts lane (taken_in (session s h) lane) w r.ticks
+    lane-step p t l kind facts (route_of s lane) (taken_in (session s h) lane) w r.ticks
     (word-size kind s h lane below) r.on
     before m.reports m.decides m.decided.decision m.stage d_is after_is
-    (phase_before s (length h)) (phase s Rx (length h)) (gives_in (session s h)) refl refl r.phases
+    (phase_before s (length h)) (phase s Rx (length h)) (gives_in (session s h)) lane refl refl r.phases
     (decides-next kind s h) (omega arith)
     (ap (λ (x : LaneReport). x.started) (report-lane kind s h lane below)) r.lane_in
 
@@ -206,9 +217,9 @@ pub taken-more : (kind : LaneKind) (s : Plan) (h : History) (lane : ℕ) → Has
 taken-more kind s h lane begun = sym (took-stepped kind s h lane begun)
 
 pub entries-more : (kind : LaneKind) (s : Plan) (h : History) (lane : ℕ) → HasHunt h
-    → entries_now kind s (with_next kind s h) lane ≡ kind.entries s.link.params s.link.timing lane
+    → entries_now kind s (with_next kind s h) lane ≡ kind.entries s.link.params s.link.timing (route_of s lane)
     (took kind s h lane)
-entries-more kind s h lane begun = ap (kind.entries s.link.params s.link.timing lane)
+entries-more kind s h lane begun = ap (kind.entries s.link.params s.link.timing (route_of s lane))
     (taken-more kind s h lane begun)
 
 pub gives-more : (kind : LaneKind) (s : Plan) (h : History) → HasHunt h
@@ -225,7 +236,7 @@ pub depth-none : (kind : LaneKind) (s : Plan) (lane : ℕ)
     → KindFacts kind s.link.params s.link.timing → HasDepth kind s [] lane
 unfolding from_hunt ends_in_hunt
 depth-none kind s lane facts =
-    let u = facts.nothing lane in
+    let u = facts.nothing (route_of s lane) in
     let empty = ap length u.entries in
     record {
       words = tt;
@@ -292,7 +303,7 @@ has-room kind t s lane facts laws timing below goes =
     let d = depth-run kind t s lane facts laws timing below in
     let no = (or_parts (is_reset s Rx (length h)) (ends_in_hunt h) goes).1 in
     room-in s.link.params s.link.timing l (standing_after s h).stage (phase_before s (length h))
-    (started_by kind s.link.params s.link.timing lane (taken_in (current h) lane))
+    (started_by kind s.link.params s.link.timing (route_of s lane) (taken_in (current h) lane))
     (length (entries_now kind s h lane)) (gives_in (current h)) (d.goes no)
 
 -- the lanes gave no more than came
@@ -320,7 +331,7 @@ pub has-entry : (kind : LaneKind) (t : ℕ) (s : Plan) (lane : ℕ)
     → broken_timing s.link.params s.link.timing ≡ None
     → lane < s.link.params.l → (next kind s (run kind s t)).stage ≡ stage.Run
     → gives_in (session s (run kind s t))
-    < length (kind.entries s.link.params s.link.timing lane (took kind s (run kind s t) lane))
+    < length (kind.entries s.link.params s.link.timing (route_of s lane) (took kind s (run kind s t) lane))
 has-entry kind t s lane facts laws timing below runs =
     let h = run kind s t in
     let o = tick-outcome kind s h lane facts (legal s.link.params s.link.timing laws timing) below

@@ -426,12 +426,12 @@ module _ (p : Params) (t : Timing) (legal : IsLegal p t) where
             ]
           ]
 
-      wait-step : (phase : Option ℕ) (next : Option ℕ) (x g : ℕ) → before.stage ≡ stage.Wait
+      wait-step : (phase : Option ℕ) (next : Option ℕ) (x g place : ℕ) → before.stage ≡ stage.Wait
           → phase ≡ Some x → next ≡ Some ((x + 1) % period p)
-          → w.order.offset ≡ offset_at p t next → decides ≡ is_at next t.rbd → lane < length reports
-          → (get_or reports lane no_report).started ≡ later
+          → w.order.offset ≡ offset_at p t next → decides ≡ is_at next t.rbd → place < length reports
+          → (get_or reports place no_report).started ≡ later
           → InWait p t phase started n g → Outcome p t d after next later m g
-      wait-step phase next x g is phase_is next_is offset decides_is below report h =
+      wait-step phase next x g place is phase_is next_is offset decides_is below report h =
           let y : ℕ = (x + 1) % period p in
           let some = legal.some in
           let low : y < period p = mod-lt (x + 1) (let pos : 0 < period p = omega arith in pos) in
@@ -454,7 +454,7 @@ module _ (p : Params) (t : Timing) (legal : IsLegal p t) where
                     | inl r ↦
                         let o =
                         on decision.Release e (at-stage stage.Wait decision.Release is r.is) in
-                        let own = r.lanes lane below in
+                        let own = r.lanes place below in
                         let begun : later ≡ Some own.offset = sym report ∙ own.is in
                         let all = all-come y own.offset a now begun own.inside in
                         to-run d after next later m g (ap is_hunt o.0) o.1
@@ -467,7 +467,7 @@ module _ (p : Params) (t : Timing) (legal : IsLegal p t) where
                         })
                     | inr k ↦
                         let o = on decision.Stay e (at-stage stage.Wait decision.Stay is k.is) in
-                        let none : later ≡ None = sym report ∙ k.lanes lane below in
+                        let none : later ≡ None = sym report ∙ k.lanes place below in
                         let empty = a.unstarted none in
                         to-wait d after next later m g (ap is_hunt o.0) (o.1 ∙ is) (record {
                           gave = gave;
@@ -482,18 +482,19 @@ module _ (p : Params) (t : Timing) (legal : IsLegal p t) where
                 ]
           ]
 
-      pub lane-step : (phase next : Option ℕ) (g : ℕ)
+      -- the report of the lane is at this place of them
+      pub lane-step : (phase next : Option ℕ) (g place : ℕ)
           → w.order.armed ≡ not (is_hunting before.stage) → w.order.offset ≡ offset_at p t next
           → ((x : ℕ) → phase ≡ Some x → before.stage ≡ stage.Wait
           → next ≡ Some ((x + 1) % period p)) → decides ≡ is_at next t.rbd
-          → lane < length reports
-          → (get_or reports lane no_report).started ≡ started_by kind p t lane (taken ++ w ∷ [])
+          → place < length reports
+          → (get_or reports place no_report).started ≡ started_by kind p t lane (taken ++ w ∷ [])
           → LaneIn before.stage p t phase (started_by kind p t lane taken)
           (length (kind.entries p t lane taken)) g
           → Outcome p t d after next (started_by kind p t lane (taken ++ w ∷ []))
           (length (kind.entries p t lane (taken ++ w ∷ []))) g
       unfolding started later n m
-      lane-step phase next g armed offset goes decides_is below report h =
+      lane-step phase next g place armed offset goes decides_is below report h =
           elim (cases-stage before.stage) [
             | inl is ↦
                 let here : InHunt started n g = rw is at h in
@@ -501,7 +502,7 @@ module _ (p : Params) (t : Timing) (legal : IsLegal p t) where
             | inr more ↦ elim more [
               | inl is ↦
                   let here : InWait p t phase started n g = rw is at h in
-                  wait-step phase next here.x g is here.phase_is (goes here.x here.phase_is is)
+                  wait-step phase next here.x g place is here.phase_is (goes here.x here.phase_is is)
                   offset
                   decides_is below report here
               | inr is ↦ let here : InRun p t started n g = rw is at h in run-step next g is here

@@ -22,6 +22,7 @@ use Rattle.link_model.specs.Moments.{History, Moment}
 use Rattle.link_model.specs.Receives.{taken_in, told_of}
 use Rattle.link_model.specs.Run.{run}
 use Rattle.link_model.specs.Sends.{handed_since, sent_bits, sent_by}
+use Rattle.link_model.specs.Wiring.{has_inverted_polarity, wire_of}
 
 -- ---- the session
 
@@ -175,33 +176,37 @@ sent-lane k s h lane below =
 
 pub taken-lane : (k : LaneKind) (s : Plan) (h : History) (lane : ℕ) → lane < s.link.params.l
     → get_or (next k s h).taken lane [] ≡ received s lane (length h)
-    (sent_bits h lane ++ get_or (next k s h).sent lane [])
+    (sent_bits h (wire_of s lane) ++ get_or (next k s h).sent (wire_of s lane) [])
 taken-lane k s h lane below =
     let long = length-numbers s.link.params.l 0 in
     let f : ℕ → List Bool =
-    λ l. received s l (length h) (sent_bits h l ++ get_or (next k s h).sent l []) in
+    λ l. received s l (length h)
+    (sent_bits h (wire_of s l) ++ get_or (next k s h).sent (wire_of s l) []) in
     let same : 0 + lane ≡ lane = omega arith in
     ap (λ (l : List (List Bool)). get_or l lane []) (taken-next k s h)
     ∙ get_or-map f (lanes_of s) lane 0 [] (omega arith)
     ∙ ap f (get_or-numbers s.link.params.l lane 0 0 below ∙ same)
 
--- the bits that a lane sends in the tick
-pub bits-lane : (k : LaneKind) (s : Plan) (h : History) (lane : ℕ) → lane < s.link.params.l
-    → get_or (next k s h).sent lane [] ≡ bits_with k s lane (lane_ready s h lane) (next k s h).order
-    (slice_index (next k s h).handed lane)
+-- the bits that are sent on a lane in the tick
+pub bits-lane : (k : LaneKind) (s : Plan) (h : History) (lane : ℕ)
+    → wire_of s lane < s.link.params.l
+    → get_or (next k s h).sent (wire_of s lane) []
+    ≡ bits_with k s lane (lane_ready s h lane) (next k s h).order
+    (slice_index (next k s h).handed (wire_of s lane))
 unfolding sent_by
-bits-lane k s h lane below = sent-lane k s h lane below
+bits-lane k s h lane wired = sent-lane k s h (wire_of s lane) wired
 
 -- the bits that it receives
 pub word-lane : (k : LaneKind) (s : Plan) (h : History) (lane : ℕ) → lane < s.link.params.l
+    → wire_of s lane < s.link.params.l
     → get_or (next k s h).taken lane []
     ≡ word_with k s lane (lane_ready s h lane) (next k s h).order
-    (slice_index (next k s h).handed lane)
+    (slice_index (next k s h).handed (wire_of s lane))
 unfolding received
-word-lane k s h lane below =
+word-lane k s h lane below wired =
     taken-lane k s h lane below
-    ∙ ap (λ (bs : List Bool). received s lane (length h) (sent_bits h lane ++ bs))
-    (bits-lane k s h lane below)
+    ∙ ap (λ (bs : List Bool). received s lane (length h) (sent_bits h (wire_of s lane) ++ bs))
+    (bits-lane k s h lane wired)
 
 pub sent-bits-more : (h : History) (m : Moment) (lane : ℕ)
     → sent_bits (h ++ m ∷ []) lane ≡ sent_bits h lane ++ get_or m.sent lane []
@@ -230,17 +235,32 @@ gives-in-more h m = fold_push (λ (k : ℕ) (m : Moment). k + (if is_running m.s
 
 -- ---- a lane of a run
 
-abbrev pub gone_through : List Handed → List Bool → ℕ → Bool → List Taken → ℕ → LaneRun
-gone_through handed sent delay dead taken gave =
-    record { handed = handed; sent = sent; delay = delay; dead = dead; taken = taken; gave = gave }
+abbrev pub gone_through : List Handed → List Bool → ℕ → ℕ → Bool → Bool → List Taken → ℕ → LaneRun
+gone_through handed sent reach delay dead inverted taken gave = record {
+  handed = handed;
+  sent = sent;
+  reach = reach;
+  delay = delay;
+  dead = dead;
+  inverted = inverted;
+  taken = taken;
+  gave = gave;
+}
 
-pub same-runs : (x y : LaneRun) → x.handed ≡ y.handed → x.sent ≡ y.sent → x.delay ≡ y.delay
-    → x.dead ≡ y.dead → x.taken ≡ y.taken → x.gave ≡ y.gave → x ≡ y
-same-runs x y handed sent delay dead taken gave =
-    ap (λ (a : List Handed). gone_through a x.sent x.delay x.dead x.taken x.gave) handed
-    ∙ ap (λ (a : List Bool). gone_through y.handed a x.delay x.dead x.taken x.gave) sent
-    ∙ ap₂ (λ (a : ℕ) (b : Bool). gone_through y.handed y.sent a b x.taken x.gave) delay dead
-    ∙ ap₂ (λ (a : List Taken) (b : ℕ). gone_through y.handed y.sent y.delay y.dead a b) taken gave
+pub same-runs : (x y : LaneRun) → x.handed ≡ y.handed → x.sent ≡ y.sent → x.reach ≡ y.reach
+    → x.delay ≡ y.delay → x.dead ≡ y.dead → x.inverted ≡ y.inverted → x.taken ≡ y.taken
+    → x.gave ≡ y.gave → x ≡ y
+same-runs x y handed sent reach delay dead inverted taken gave =
+    ap (λ (a : List Handed).
+    gone_through a x.sent x.reach x.delay x.dead x.inverted x.taken x.gave) handed
+    ∙ ap₂ (λ (a : List Bool) (b : ℕ).
+    gone_through y.handed a b x.delay x.dead x.inverted x.taken x.gave) sent reach
+    ∙ ap₂ (λ (a : ℕ) (b : Bool).
+    gone_through y.handed y.sent y.reach a b x.inverted x.taken x.gave) delay dead
+    ∙ ap (λ (a : Bool).
+    gone_through y.handed y.sent y.reach y.delay y.dead a x.taken x.gave) inverted
+    ∙ ap₂ (λ (a : List Taken) (b : ℕ).
+    gone_through y.handed y.sent y.reach y.delay y.dead y.inverted a b) taken gave
 
 -- what the events of the tick leave of it
 pub ready-handed : (s : Plan) (h : History) (lane : ℕ)
@@ -249,23 +269,26 @@ pub ready-handed : (s : Plan) (h : History) (lane : ℕ)
 unfolding handed_since
 ready-handed s h lane =
     let before : History = drop (reset_before s Tx (length h)) h in
-    ap (λ (l : History). handed_in l lane) (drop-reset s Tx h)
+    ap (λ (l : History). handed_in l (wire_of s lane)) (drop-reset s Tx h)
     ∙ elim (cases_Bool (is_reset s Tx (length h))) [ inl e ↦ rw e refl | inr e ↦ rw e refl ]
 
 handed-step : (k : LaneKind) (s : Plan) (h : History) (lane : ℕ)
-    → handed_with (lane_ready s h lane) (next k s h).order (slice_index (next k s h).handed lane)
-    ≡ handed_in (drop (last_reset s Tx (length h)) (with_next k s h)) lane
+    → handed_with (lane_ready s h lane) (next k s h).order
+    (slice_index (next k s h).handed (wire_of s lane))
+    ≡ handed_in (drop (last_reset s Tx (length h)) (with_next k s h)) (wire_of s lane)
 unfolding handed_since
 handed-step k s h lane = sym (
-    ap (λ (l : History). handed_in l lane) (drop-last-reset s Tx h (next k s h))
-    ∙ handed-in-more (drop (last_reset s Tx (length h)) h) (next k s h) lane)
+    ap (λ (l : History). handed_in l (wire_of s lane)) (drop-last-reset s Tx h (next k s h))
+    ∙ handed-in-more (drop (last_reset s Tx (length h)) h) (next k s h) (wire_of s lane))
 
-sent-step : (k : LaneKind) (s : Plan) (h : History) (lane : ℕ) → lane < s.link.params.l
-    → sent_bits h lane ++ bits_with k s lane (lane_ready s h lane) (next k s h).order
-    (slice_index (next k s h).handed lane) ≡ sent_bits (with_next k s h) lane
-sent-step k s h lane below =
-    sym (sent-bits-more h (next k s h) lane ∙ ap (λ (l : List Bool). sent_bits h lane ++ l)
-    (bits-lane k s h lane below))
+sent-step : (k : LaneKind) (s : Plan) (h : History) (lane : ℕ) → wire_of s lane < s.link.params.l
+    → sent_bits h (wire_of s lane)
+    ++ bits_with k s lane (lane_ready s h lane) (next k s h).order
+    (slice_index (next k s h).handed (wire_of s lane))
+    ≡ sent_bits (with_next k s h) (wire_of s lane)
+sent-step k s h lane wired =
+    sym (sent-bits-more h (next k s h) (wire_of s lane)
+    ∙ ap (λ (l : List Bool). sent_bits h (wire_of s lane) ++ l) (bits-lane k s h lane wired))
 
 -- what its receiver end has taken in the session with this tick
 pub took-stepped : (k : LaneKind) (s : Plan) (h : History) (lane : ℕ) → HasHunt h
@@ -283,29 +306,31 @@ takes k s h lane =
     record {
       order = (next k s h).told;
       word = word_with k s lane (lane_ready s h lane) (next k s h).order
-          (slice_index (next k s h).handed lane);
+          (slice_index (next k s h).handed (wire_of s lane));
     }
 
 takes-step : (k : LaneKind) (s : Plan) (h : History) (lane : ℕ) → HasHunt h → lane < s.link.params.l
+    → wire_of s lane < s.link.params.l
     → taken_in (current (with_next k s h)) lane
     ≡ taken_in (session s h) lane ++ takes k s h lane ∷ []
-takes-step k s h lane begun below =
+takes-step k s h lane begun below wired =
     ap (λ (l : History). taken_in l lane) (current-session k s h begun)
     ∙ taken-in-more (session s h) (next k s h) lane
     ∙ ap (λ (w : List Bool). taken_in (session s h) lane
-    ++ (record { order = (next k s h).told; word = w }) ∷ []) (word-lane k s h lane below)
+    ++ (record { order = (next k s h).told; word = w }) ∷ []) (word-lane k s h lane below wired)
 
 taken-step : (k : LaneKind) (s : Plan) (h : History) (lane : ℕ) → HasHunt h → lane < s.link.params.l
+    → wire_of s lane < s.link.params.l
     → (if (next k s h).told.hunt then takes k s h lane ∷ [] else taken_in (current h) lane
     ++ takes k s h lane ∷ []) ≡ taken_in (current (with_next k s h)) lane
-taken-step k s h lane begun below = elim (cases_Bool (next k s h).told.hunt) [
+taken-step k s h lane begun below wired = elim (cases_Bool (next k s h).told.hunt) [
   | inl e ↦ cond-true (next k s h).told.hunt (takes k s h lane ∷ [])
       (taken_in (current h) lane ++ takes k s h lane ∷ []) e
-      ∙ sym (takes-step k s h lane begun below
+      ∙ sym (takes-step k s h lane begun below wired
       ∙ ap (λ (l : History). taken_in l lane ++ takes k s h lane ∷ []) (session-hunt k s h e))
   | inr e ↦ cond-false (next k s h).told.hunt (takes k s h lane ∷ [])
       (taken_in (current h) lane ++ takes k s h lane ∷ []) e
-      ∙ sym (takes-step k s h lane begun below
+      ∙ sym (takes-step k s h lane begun below wired
       ∙ ap (λ (l : History). taken_in l lane ++ takes k s h lane ∷ []) (session-goes-on k s h e))
 ]
 
@@ -321,17 +346,17 @@ gave-step k s h = elim (cases_Bool (next k s h).told.hunt) [
 
 -- with the tick sent and taken
 pub lane-stepped : (k : LaneKind) (s : Plan) (h : History) (lane : ℕ) → HasHunt h
-    → lane < s.link.params.l
+    → lane < s.link.params.l → wire_of s lane < s.link.params.l
     → stepped k s lane (lane_ready s h lane) (next k s h).order
-    (slice_index (next k s h).handed lane)
+    (slice_index (next k s h).handed (wire_of s lane))
     (next k s h).told ≡ lane_stepped k s h lane
-lane-stepped k s h lane begun below =
+lane-stepped k s h lane begun below wired =
     same-runs
     (stepped k s lane (lane_ready s h lane) (next k s h).order
-    (slice_index (next k s h).handed lane)
+    (slice_index (next k s h).handed (wire_of s lane))
     (next k s h).told) (lane_stepped k s h lane)
-    (handed-step k s h lane) (sent-step k s h lane below) refl refl
-    (taken-step k s h lane begun below)
+    (handed-step k s h lane) (sent-step k s h lane wired) refl refl refl refl
+    (taken-step k s h lane begun below wired)
     (gave-step k s h)
 
 pub gave-next : (k : LaneKind) (s : Plan) (h : History) → HasHunt h
@@ -350,14 +375,17 @@ lane-run-next k s h lane begun =
     { gave = gives_in (session s h) + (if is_running (next k s h).stage then 1 else 0) } in
     let since = drop-reset-before s Tx h (next k s h) ∙ sym (drop-last-reset s Tx h (next k s h)) in
     same-runs (lane_run s (with_next k s h) lane) after
-    (ap (λ (l : History). handed_in l lane) since)
+    (ap (λ (l : History). handed_in l (wire_of s lane)) since)
+    refl
     refl
     (ap (delay_before s lane) (length-more h (next k s h)))
     (ap (dead_before s lane) (length-more h (next k s h)))
     refl
+    refl
     (gave-next k s h begun)
 
 -- and before the first tick
-pub lane-run-none : (s : Plan) (lane : ℕ) → lane_run s [] lane ≡ no_run s
+pub lane-run-none : (s : Plan) (lane : ℕ)
+    → lane_run s [] lane ≡ record (no_run s) { inverted = has_inverted_polarity s lane }
 unfolding from_hunt
 lane-run-none s lane = refl

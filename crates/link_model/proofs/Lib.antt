@@ -23,3 +23,4 @@ pub mod RxHistory
 pub mod TxHistory
 pub mod WholeFrames
 pub mod WindowFacts
+pub mod Wirings

@@ -1,6 +1,6 @@
--- What the lines of a run do to the bits: the delay in force, dead lanes and inverted bits (this
--- project's own).
-use Rattle.std.specs.Prelude.{ℕ, ◌+◌, ◌*◌, ◌%◌, ◌==◌, nat_le, nat_lt, Bool, false, ◌&&◌, if◌then◌else◌, List, count_by, filter, fold}
+-- What the lines of a run do to the bits: the delay in force, dead lanes, inverted bits and exchanged
+-- wires (this project's own).
+use Rattle.std.specs.Prelude.{ℕ, ◌+◌, ◌*◌, ◌%◌, ◌==◌, nat_le, nat_lt, Bool, false, not, ◌&&◌, if◌then◌else◌, List, map, count_by, filter, fold}
 use Rattle.link_params.specs.Numbers.{width}
 use Rattle.line_model.specs.LineBits.{line_word}
 use Rattle.scenario.specs.declared.plan.What.{What}
@@ -8,6 +8,7 @@ use Rattle.scenario.specs.declared.plan.What.TheVariants.{Reset, Delay, Dead}
 use Rattle.scenario.specs.declared.plan.Event.{Event}
 use Rattle.scenario.specs.declared.plan.Flip.{Flip}
 use Rattle.scenario.specs.Plans.{Plan, numbers_from}
+use Rattle.link_model.specs.Wiring.{has_inverted_polarity}
 
 abbrev pub delay_after : ℕ → ℕ → What → ℕ
 delay_after lane d (Delay l bits) = if l == lane then bits else d
@@ -44,7 +45,13 @@ is_inverted s lane i = count_by (covers lane i) s.flips % 2 == 1
 unfoldable pub inverted_bits : Plan → ℕ → ℕ → List ℕ
 inverted_bits s lane n = filter (is_inverted s lane) (numbers_from 0 n)
 
--- the bits that a lane receives in tick t, where these bits were sent on it up to the tick's end
+-- the same bits, or each of them inverted
+abbrev pub with_polarity : Bool → List Bool → List Bool
+with_polarity b word = if b then map not word else word
+
+-- the bits that a receiver lane receives in tick t, where these bits were sent on the transmitter
+-- lane to which it is wired up to the tick's end
 unfoldable pub received : Plan → ℕ → ℕ → List Bool → List Bool
 received s lane t sent = let w = width s.link.params in
-    line_word w sent (inverted_bits s lane (w * s.ticks)) (delay_at s lane t) (is_dead s lane t)
+    with_polarity (has_inverted_polarity s lane)
+    (line_word w sent (inverted_bits s lane (w * s.ticks)) (delay_at s lane t) (is_dead s lane t))

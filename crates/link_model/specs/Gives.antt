@@ -61,7 +61,7 @@ abbrev pub frames_in : Params → ℕ → List Entry → ℕ
 frames_in p n entries = length (octets_given p n entries) / p.f
 
 -- the frames whose last octets are given in a tick, where n entries of the session were given
--- before; r: the tick of the release
+-- before, of the entries of each lane of the frame; r: the tick of the release
 unfoldable pub frames_given : Params → ℕ → ℕ → List (List Entry) → List Delivered
 frames_given p r n entries =
     let octets = map (octets_given p (n + 1)) entries in

@@ -1,3 +1,4 @@
+pub mod Wiring
 pub mod Carried
 pub mod Edges
 pub mod Orders

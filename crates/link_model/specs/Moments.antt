@@ -19,7 +19,7 @@ pub record Moment : Type 0 where
   pub order : TxOrder  -- what each transmitter lane was told to send
   pub entered : List ℕ  -- the octet times at which source frames began
   pub handed : List ℕ  -- the octets of each transmitter lane
-  pub sent : List (List Bool)  -- the bits of each lane
+  pub sent : List (List Bool)  -- the bits of each transmitter lane
   pub told : RxOrder  -- what each receiver lane was told
   pub taken : List (List Bool)  -- the bits of each receiver lane
   pub reports : List LaneReport  -- after these bits

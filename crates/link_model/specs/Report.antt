@@ -125,7 +125,7 @@ rows s h = bare row.Link ∷ bare (row.Hunt 0)
 
 -- the lines of some rows
 unfoldable pub lines : Plan → List Printed → List ℕ
-lines s printed = flat_map (λ x. line_of s.link x.row x.words) printed
+lines s printed = flat_map (λ x. line_of s.version s.link x.row x.words) printed
 
 -- the report of a plan's run
 unfoldable pub report : LaneKind → Plan → List ℕ

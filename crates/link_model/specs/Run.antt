@@ -16,6 +16,7 @@ use Rattle.link_model.specs.Gives.{frames_given, gives_in}
 use Rattle.link_model.specs.Hunts.{session, standing}
 use Rattle.link_model.specs.Moments.{History, Moment}
 use Rattle.link_model.specs.Receives.{taken_in, told_of}
+use Rattle.link_model.specs.Wiring.{by_frame, route_of, wire_of}
 use Rattle.link_model.specs.Sends.{beginnings, data_place, frames_before, handed_to, order_of, sent_bits, sent_by}
 
 -- ---- the tick that comes after a history
@@ -42,12 +43,13 @@ moment kind s h =
     let handed = map (handed_to s (frames_before h) place) lanes in
     let sent = map (λ l. sent_by kind s h order (slice_index handed l) l) lanes in
     let told = told_of s h in
-    let taken = map (λ l. received s l t (sent_bits h l ++ get_or sent l [])) lanes in
+    let taken = map (λ l. received s l t (sent_bits h (wire_of s l) ++ get_or sent (wire_of s l) []))
+    lanes in
     let past = session s h in
     let took : ℕ → List Taken = λ l. taken_in past l
     ++ (record { order = told; word = get_or taken l [] }) ∷ [] in
-    let reports = map (λ l. kind.report p s.link.timing l (took l)) lanes in
-    let entries = map (λ l. kind.entries p s.link.timing l (took l)) lanes in
+    let reports = map (λ l. kind.report p s.link.timing (route_of s l) (took l)) lanes in
+    let entries = map (λ l. kind.entries p s.link.timing (route_of s l) (took l)) lanes in
     let gave = gives_in past in
     let before = standing s h in
     let decides = is_at (phase s Rx t) s.link.timing.rbd in
@@ -64,7 +66,8 @@ moment kind s h =
       decides = decides;
       decided = decided_in s before decides reports;
       stage = stage;
-      delivered = if is_running stage then frames_given p (t - gave) gave entries else [];
+      delivered = if is_running stage then frames_given p (t - gave) gave (by_frame s [] entries)
+          else [];
     }
 
 -- the history of the first t ticks

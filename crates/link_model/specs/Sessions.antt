@@ -14,6 +14,7 @@ use Rattle.link_model.specs.Moments.{Delivered, Moment}
 use Rattle.link_model.specs.Hunts.{is_hunt, session}
 use Rattle.link_model.specs.Run.{moment, run}
 use Rattle.link_model.specs.Receives.{taken_in}
+use Rattle.link_model.specs.Wiring.{route_of}
 
 -- ---- a tick of a run
 
@@ -38,7 +39,8 @@ taken_at kind s lane t = taken_in (session s (run kind s t) ++ at kind s t ∷ [
 
 -- the entries that its buffer was given since its start
 abbrev pub entries_at : LaneKind → Plan → ℕ → ℕ → List Entry
-entries_at kind s lane t = kind.entries s.link.params s.link.timing lane (taken_at kind s lane t)
+entries_at kind s lane t =
+    kind.entries s.link.params s.link.timing (route_of s lane) (taken_at kind s lane t)
 
 -- ---- hunts
 

@@ -22,8 +22,10 @@ pub enum Alarm {
     NoLock { lane: u32 },
     /// A place of the alignment sequence breaks a rule.
     IlasFault { lane: u32, place: u32 },
-    /// A configuration octet is not the lane's.
+    /// A configuration octet, other than the one with the lane's number, is not the lane's.
     ConfigMismatch { lane: u32, octet: u32 },
+    /// The configuration octets of a lane name another lane: the five low bits of octet 2.
+    LaneId { lane: u32, lid: u32 },
     /// A SYSREF edge came at this phase of a device's clock, in ticks.
     SysrefPhase { device: Device, off: u32 },
     /// No lane started for eight decisions.

@@ -7,7 +7,9 @@ pub enum IlasCause {
     Code,
     /// A character that is not allowed at its place.
     Wrong,
-    /// A configuration octet that differs from the lane's in its compared bits.
+    /// Configuration octet 2 names another lane: the five low bits that were read.
+    LaneId { lid: u32 },
+    /// Another configuration octet differs from the lane's in its compared bits.
     Config,
     /// Octet 13 is neither sum.
     Fchk,

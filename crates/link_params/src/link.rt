@@ -3,6 +3,7 @@ ghost use Rattle.std.specs.Prelude.{◌≡◌, ◌≤◌, ◌<◌, ◌+◌, ◌^
 ghost use Rattle.link_params.specs.Numbers.{period, wait, tx_edge, rx_edge, lat_ticks, latency, depth, bound};
 ghost use Rattle.link_params.specs.TimingLaws.{broken_timing};
 ghost use Rattle.link_params.specs.Laws.{broken_law};
+ghost use Rattle.link_params.specs.Lanes.{is_inside};
 
 use crate::fields::Timing;
 use crate::shape::Shape;
@@ -53,6 +54,13 @@ impl Link {
         ensures legal { broken_timing self.now.params self.now.timing ≡ None }
     {
         self.timing
+    }
+
+    /// Whether a lane that starts at this offset, in ticks, is inside the window.
+    pub fn is_inside(&self, offset: u32) -> bool
+        ensures { result ≡ is_inside self.now.timing offset }
+    {
+        self.timing.w_lo <= offset && offset <= self.timing.w_hi
     }
 
     /// The tick in which the transmitter captures the first SYSREF edge, without jitter.

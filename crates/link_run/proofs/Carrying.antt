@@ -28,6 +28,8 @@ use Rattle.link_model.specs.Kinds.{kind_of, moment_of, run_of}
 use Rattle.link_model.specs.kept.LaneRuns.{LaneRun, given_by, held_by, lane_ready, lane_run, lane_stepped, stepped}
 use Rattle.link_model.specs.Moments.{History}
 use Rattle.link_model.specs.Receives.{taken_in, told_of}
+use Rattle.link_model.specs.Wiring.{route_of, wire_of}
+use Rattle.link_model.proofs.Wirings.{order-below}
 use Rattle.lane_threads.proofs.LaneLists.{has-run-at}
 use Rattle.lane_threads.specs.declared.cell_end.CellEnd.{CellEnd}
 use Rattle.lane_threads.specs.declared.lane_pair.LanePair.{LanePair}
@@ -48,9 +50,10 @@ use Rattle.link_run.specs.kept.Segments.{CanCarry, FollowOn, IsCarried, IsOneSeg
 -- the steps and octets of a lane are those of ticks t to t + m, which are a segment
 pub record IsSegmentOf (g : Segment) (s : Plan) (t m lane : ℕ) : Type 0 where
   pub below : lane < s.link.params.l
+  pub wired : wire_of s lane < s.link.params.l
   pub steps : (i : ℕ) → i < suc m → step_at g i ≡ step_of s (t + i)
   pub octets : (i : ℕ) → i < suc m
-      → slice_index g.octets i ≡ slice_index (moment_of s (run_of s (t + i))).handed lane
+      → slice_index g.octets i ≡ slice_index (moment_of s (run_of s (t + i))).handed (wire_of s lane)
   pub one : IsOneSegment g.gives s t m
 
 -- n ticks of it, from what the lane is once the events of tick t have happened
@@ -112,7 +115,7 @@ stepped-is g s t m lane n of below is =
     ∙ ap (λ (z : Step). stepped k s lane x z.tx (slice_index g.octets n) z.rx) (of.steps n below)
     ∙ ap (λ (v : ℕ). stepped k s lane x (moment_of s h).order v (moment_of s h).told)
     (of.octets n below)
-    ∙ lane-stepped k s h lane (has-hunt-run k (t + n) s) of.below
+    ∙ lane-stepped k s h lane (has-hunt-run k (t + n) s) of.below of.wired
 
 -- before tick t + n the lane is as the run says
 pub ready-is : (n : ℕ) (g : Segment) (s : Plan) (t m lane : ℕ) → IsSegmentOf g s t m lane
@@ -215,7 +218,7 @@ holds-entry (suc n) g s t m lane laws timing of below gives =
     let runs = running-is (moment_of s h).stage (of.one.running n (omega arith)
     ∙ sym (gives-later g n) ∙ gives) in
     let entry = has-entry k (t + n) s lane (facts-of p s.link.timing) laws timing of.below runs in
-    let same = ap (λ (taken : List Taken). length (k.entries p s.link.timing lane taken))
+    let same = ap (λ (taken : List Taken). length (k.entries p s.link.timing (route_of s lane) taken))
     (took-stepped k s h lane (has-hunt-run k (t + n) s)) in
     let some : 0 < held_by k s (λ _. stepped_of s (t + n) lane) lane =
     (let n = rw same at entry in omega arith) in
@@ -269,6 +272,7 @@ segment-is : (lanes : List LanePair) (g : Planned) (s : Plan) (t m : ℕ) (first
     → IsSegmentOf (segment_of (get_or lanes lane d) g.steps g.gives) s t m lane
 segment-is lanes g s t m first last lane d c below = record {
   below = omega (arith, c.runs.0);
+  wired = (let count = c.runs.0 in order-below s.link.params.l s.wire lane (omega arith) c.wire);
   steps = c.has_steps.steps_are;
   octets = λ i inside. c.octets lane i d below inside;
   one = c.one;

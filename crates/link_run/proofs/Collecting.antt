@@ -8,6 +8,7 @@ use Rattle.link_params.specs.Numbers.{octets_per_tick, period}
 use Rattle.bring_up.specs.declared.stage.Stage.{Stage}
 use Rattle.bring_up.specs.declared.stage.Stage.TheVariants as stage
 use Rattle.bring_up.specs.Decisions.{is_running}
+use Rattle.scenario.specs.Limits.{is_order}
 use Rattle.scenario.specs.Plans.{Plan, numbers_from}
 use Rattle.lane_threads.specs.Segments.{pushed}
 use Rattle.link_model.proofs.ColumnHistory.{cell_given, column, columns-now-none, gives-none, gives-some}
@@ -22,6 +23,8 @@ use Rattle.link_model.specs.Kinds.{kind_of, moment_of, run_of}
 use Rattle.link_model.specs.kept.LaneRuns.{given_by, lane_stepped}
 use Rattle.link_model.specs.Moments.{History}
 use Rattle.link_model.specs.Run.{run}
+use Rattle.link_model.specs.Wiring.{lane_for}
+use Rattle.link_model.proofs.Wirings.{lane-for-below}
 use Rattle.link_run.proofs.GiveFacts.{columns-early, columns-late, columns-still, columns_left, delivered-frames, delivered-nothing, with_tick}
 use Rattle.link_run.proofs.RunFacts.{IsRunOf}
 use Rattle.link_run.specs.Given.{cells_at, cells_in}
@@ -66,9 +69,10 @@ cells-still s lane t halts =
     (pushed (given_by k s (λ l. lane_stepped k s (run_of s t) l) lane)) [] halts
 
 -- nor where its places of the alignment sequence are given
-cells-early : (s : Plan) (lane t : ℕ) → IsRunOf s (run_of s t) → lane < s.link.params.l
-    → gives_in (session s (run_of s t)) < lead s.link.params → cells_at s lane t ≡ []
-cells-early s lane t r below early =
+cells-early : (s : Plan) (place t : ℕ) → IsRunOf s (run_of s t) → place < s.link.params.l
+    → gives_in (session s (run_of s t)) < lead s.link.params → cells_at s (lane_for s place) t ≡ []
+cells-early s place t r below early =
+    let lane : ℕ = lane_for s place in
     let k : LaneKind = kind_of s.link.params in
     let h : History = run_of s t in
     elim (cases_Bool (is_running (moment_of s h).stage)) [
@@ -76,20 +80,21 @@ cells-early s lane t r below early =
       | inl goes ↦
           cond-true (is_running (moment_of s h).stage)
           (pushed (given_by k s (λ l. lane_stepped k s h l) lane)) [] goes
-          ∙ ap pushed (gives-none k s h r.facts r.legal r.lanes r.begun r.kept lane below early)
+          ∙ ap pushed (gives-none k s h r.facts r.legal r.lanes r.begun r.kept place below early)
     ]
 
 -- and then one
-pub cells-late : (s : Plan) (lane t : ℕ) → IsRunOf s (run_of s t) → lane < s.link.params.l
+pub cells-late : (s : Plan) (place t : ℕ) → IsRunOf s (run_of s t) → place < s.link.params.l
     → is_running (moment_of s (run_of s t)).stage ≡ true
     → lead s.link.params ≤ gives_in (session s (run_of s t))
-    → cells_at s lane t ≡ cell_given (kind_of s.link.params) s (run_of s t) lane ∷ []
-cells-late s lane t r below goes late =
+    → cells_at s (lane_for s place) t ≡ cell_given (kind_of s.link.params) s (run_of s t) place ∷ []
+cells-late s place t r below goes late =
+    let lane : ℕ = lane_for s place in
     let k : LaneKind = kind_of s.link.params in
     let h : History = run_of s t in
     cond-true (is_running (moment_of s h).stage)
     (pushed (given_by k s (λ l. lane_stepped k s h l) lane)) [] goes
-    ∙ ap pushed (gives-some k s h r.facts r.legal r.lanes r.begun r.kept lane below
+    ∙ ap pushed (gives-some k s h r.facts r.legal r.lanes r.begun r.kept place below
     (running (moment_of s h).stage goes) late)
 
 -- ---- the cells that wait, with a tick more
@@ -153,6 +158,8 @@ next-cells (x ∷ waits) f a (suc n) e is =
 pub record HasLeft (now : Collecting) (s : Plan) (t : ℕ) : Type 0 where
   pub end_count : length now.ends ≡ s.link.params.l
   pub wait_count : length now.waiting ≡ s.link.params.l
+  pub route_is : now.route ≡ s.route
+  pub order : is_order s.link.params.l s.route ≡ true
   pub room : HaveRoom now.waiting (period s.link.params)
   pub lead_is : now.lead ≡ lead_of s.link.params
   pub ahead_is : now.ahead ≡ now.lead - gives_in (session s (run_of s t))
@@ -188,6 +195,8 @@ has-left old now hunt s t had is same gathered =
     record {
       end_count = ap (λ (v : Collecting). length v.ends) same ∙ had.end_count;
       wait_count = ap (λ (v : Collecting). length v.waiting) same ∙ had.wait_count;
+      route_is = ap (λ (v : Collecting). v.route) same ∙ had.route_is;
+      order = had.order;
       room =
           subst (λ (waits : List Waits). HaveRoom waits (period s.link.params))
           (sym (ap (λ (v : Collecting). v.waiting) same)) had.room;
@@ -226,15 +235,18 @@ begun-cells old begun now s t n is same had =
 
 has-next : (now : Collecting) (s : Plan) (t : ℕ) → IsRunOf s (run_of s t)
     → length now.ends ≡ s.link.params.l → length now.waiting ≡ s.link.params.l
+    → now.route ≡ s.route → is_order s.link.params.l s.route ≡ true
     → HaveRoom now.waiting (period s.link.params) → now.lead ≡ lead_of s.link.params
     → now.ahead ≡ now.lead - (gives_in (session s (run_of s t))
     + (if is_running (moment_of s (run_of s t)).stage then 1 else 0))
     → HasGathered now.gathering s.link.params (columns_of s (with_tick s (run_of s t)))
     → HasCollected now s (suc t)
 unfolding run
-has-next now s t r ends waits room first ahead gathered = record {
+has-next now s t r ends waits route order room first ahead gathered = record {
   end_count = ends;
   wait_count = waits;
+  route_is = route;
+  order = order;
   room = room;
   lead_is = first;
   ahead_is = ahead
@@ -261,6 +273,8 @@ pub rested-left : (was : Collecting) (now : Gathering) (s : Plan) (t : ℕ) → 
 rested-left was now s t l gathered = record {
   end_count = l.end_count;
   wait_count = l.wait_count;
+  route_is = l.route_is;
+  order = l.order;
   room = l.room;
   lead_is = l.lead_is;
   ahead_is = l.ahead_is;
@@ -279,12 +293,13 @@ collects-still was s t n r l cells halts none =
     ≡ gives_in (session s h) + (if is_running (moment_of s h).stage then 1 else 0) =
     rw halts (omega arith) in
     record {
-      has = has-next was s t r l.end_count l.wait_count l.room l.lead_is
+      has = has-next was s t r l.end_count l.wait_count l.route_is l.order l.room
+          l.lead_is
           (l.ahead_is ∙ ap (λ (m : ℕ). was.lead - m) same)
           (subst (HasGathered was.gathering p) (sym (columns-still s h r halts)) l.gathered);
-      cells = λ lane w below.
-          waits-none (get_or was.waiting lane w) s t n lane (cells-still s lane t halts)
-          (cells lane w below);
+      cells = λ place w below.
+          waits-none (get_or was.waiting place w) s t n (lane_for s place)
+          (cells-still s (lane_for s place) t halts) (cells place w below);
       delivered_is = delivered-in s t was.gathering.frames was.gathering.at
           (rw none (delivered-nothing s h was.gathering.at
           (delivered-still (kind_of p) s h halts)));
@@ -305,14 +320,15 @@ collects-early was s t n r l cells goes some none =
     ≡ g + 1 = rw goes refl in
     let less : was.ahead - 1 ≡ was.lead - (g + 1) = omega arith in
     record {
-      has = has-next (record was { ahead = was.ahead - 1 }) s t r l.end_count l.wait_count l.room l.lead_is
+      has = has-next (record was { ahead = was.ahead - 1 }) s t r l.end_count l.wait_count l.route_is
+          l.order l.room l.lead_is
           (less ∙ ap (λ (m : ℕ). was.lead - m) (sym one))
           (subst (HasGathered was.gathering p) (sym (columns-early s h r early)) l.gathered);
-      cells = λ lane w below.
+      cells = λ place w below.
           (let waits = l.wait_count in
-          waits-none (get_or was.waiting lane w) s t n lane
-          (cells-early s lane t r (omega arith) early)
-          (cells lane w below));
+          waits-none (get_or was.waiting place w) s t n (lane_for s place)
+          (cells-early s place t r (omega arith) early)
+          (cells place w below));
       delivered_is = delivered-in s t was.gathering.frames was.gathering.at
           (rw none (delivered-nothing s h was.gathering.at
           (delivered-early (kind_of p) s h r.facts r.legal r.lanes r.octets r.begun r.kept early)));
@@ -322,7 +338,7 @@ collects-early was s t n r l cells goes some none =
 pub collects-late : (was now : Collecting) (given : List (Option LaneCell)) (s : Plan) (t n : ℕ)
     → IsRunOf s (run_of s t) → HasLeft was s t → HaveWaiting was.waiting s t (suc n)
     → is_running (moment_of s (run_of s t)).stage ≡ true → was.ahead ≡ 0
-    → now.ends ≡ was.ends → AreNext was.waiting now.waiting → given ≡ map next_of was.waiting
+    → now.ends ≡ was.ends → now.route ≡ was.route → AreNext was.waiting now.waiting → given ≡ map next_of was.waiting
     → now.lead ≡ was.lead → now.ahead ≡ was.ahead
     → ((columns : Columns) (column : List LaneCell)
     → HasGathered was.gathering s.link.params columns → given ≡ map (λ c. Some c) column
@@ -332,7 +348,7 @@ pub collects-late : (was now : Collecting) (given : List (Option LaneCell)) (s :
     → FramesAre now.gathering.frames s.link.params (length columns)
     (columns ++ octet_columns s.link.params column))
     → Collects now s t n
-collects-late was now given s t n r l cells goes none same taken gave first_same ahead_same gathers leave =
+collects-late was now given s t n r l cells goes none same route taken gave first_same ahead_same gathers leave =
     let h : History = run_of s t in
     let p = s.link.params in
     let k : LaneKind = kind_of p in
@@ -342,14 +358,16 @@ collects-late was now given s t n r l cells goes none same taken gave first_same
     let waits = l.wait_count in
     let late : lead p ≤ g = omega arith in
     let runs = running (moment_of s h).stage goes in
-    let one : (lane : ℕ) → lane < p.l → cells_at s lane t ≡ cell_given k s h lane ∷ [] =
-    λ lane below. cells-late s lane t r below goes late in
+    let one : (place : ℕ) → place < p.l
+    → cells_at s (lane_for s place) t ≡ cell_given k s h place ∷ [] =
+    λ place below. cells-late s place t r below goes late in
     let all : given ≡ map (λ c. Some c) (column k s h) =
-    gave ∙ next-cells was.waiting (cell_given k s h) 0 p.l waits (λ lane w below.
-    let z : lane ≡ 0 + lane = omega arith in
-    next-is (get_or was.waiting lane w) (get_or now.waiting lane w) s t n lane
-    (cell_given k s h lane) (one lane below) (taken.each lane w (omega arith))
-    (cells lane w (omega arith))
+    gave ∙ next-cells was.waiting (cell_given k s h) 0 p.l waits
+    (λ place w below.
+    let z : place ≡ 0 + place = omega arith in
+    next-is (get_or was.waiting place w) (get_or now.waiting place w) s t n (lane_for s place)
+    (cell_given k s h place) (one place (omega arith)) (taken.each place w (omega arith))
+    (cells place w (omega arith))
     ∙ ap (λ (m : ℕ). Some (cell_given k s h m)) z) in
     let more : Columns = octet_columns p (column k s h) in
     let columns = columns-late s h r runs late in
@@ -360,12 +378,13 @@ collects-late was now given s t n r l cells goes none same taken gave first_same
     let long = taken.count in
     record {
       has = has-next now s t r (ap length same ∙ l.end_count) (taken.count ∙ waits)
+          (route ∙ l.route_is) l.order
           (room-next was.waiting now.waiting (period p) taken l.room) (first_same ∙ first) gone
           (subst (HasGathered now.gathering p) (sym columns) gathered);
-      cells = λ lane w below.
-          waits-one (get_or was.waiting lane w) (get_or now.waiting lane w) s t n lane
-          (cell_given k s h lane) (one lane (omega arith)) (taken.each lane w (omega arith))
-          (cells lane w (omega arith));
+      cells = λ place w below.
+          waits-one (get_or was.waiting place w) (get_or now.waiting place w) s t n (lane_for s place)
+          (cell_given k s h place) (one place (omega arith)) (taken.each place w (omega arith))
+          (cells place w (omega arith));
       delivered_is = delivered-in s t now.gathering.frames now.gathering.at
           (delivered-frames s h now.gathering more r columns frames gathered);
     }
@@ -373,15 +392,18 @@ collects-late was now given s t n r l cells goes none same taken gave first_same
 -- ---- before the first tick
 
 pub collected-none : (now : Collecting) (s : Plan) → length now.ends ≡ s.link.params.l
-    → length now.waiting ≡ s.link.params.l → HaveRoom now.waiting (period s.link.params)
+    → length now.waiting ≡ s.link.params.l → now.route ≡ s.route
+    → is_order s.link.params.l s.route ≡ true → HaveRoom now.waiting (period s.link.params)
     → now.lead ≡ lead_of s.link.params → now.ahead ≡ now.lead
     → HasGathered now.gathering s.link.params [] → HasCollected now s 0
 unfolding run from_hunt
-collected-none now s ends waits room first ahead gathered =
+collected-none now s ends waits route order room first ahead gathered =
     let none : now.lead ≡ now.lead - 0 = omega arith in
     record {
       end_count = ends;
       wait_count = waits;
+      route_is = route;
+      order = order;
       room = room;
       lead_is = first;
       ahead_is = ahead ∙ none;

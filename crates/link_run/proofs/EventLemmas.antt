@@ -1,11 +1,11 @@
 -- The events of a tick among the events in order of ticks.
-use Rattle.std.proofs.Common.{◌≡◌, ◌≤◌, ◌<◌, ◌&&◌, ◌||◌, ◌==◌, ℕ, zero, suc, ◌+◌, ◌-◌, Bool, true, false, if◌then◌else◌, nat_le, nat_lt, List, [], ◌∷◌, length, take, drop, get_or, Option, Some, None, is_some, inl, inr, refl, sym, ap, ap₂, ◌∙◌, subst, arith}
+use Rattle.std.proofs.Common.{◌≡◌, ◌≤◌, ◌<◌, ◌&&◌, ◌||◌, ◌==◌, ℕ, zero, suc, ◌+◌, ◌-◌, Bool, true, false, if◌then◌else◌, nat_le, nat_lt, List, [], ◌∷◌, length, take, drop, get_or, set, Option, Some, None, is_some, inl, inr, refl, sym, ap, ap₂, ◌∙◌, subst, arith}
 use Rattle.std.specs.Prelude.{count_by, fold, All, IsTrue}
 use Rattle.std.specs.List.{list_any, slice_range}
 use Rattle.std.specs.List.Sorted.{IsNonDecreasingBy}
 use Rattle.std.proofs.Math.Seq.{take-add}
-use Rattle.std.proofs.lemmas.Bool.{and_parts, cases_Bool, cases_lt, eqb-true, eqb-false, lt-ltb, le-ltb, lt-leb, le-leb, ne_eqb, eq-eqb}
-use Rattle.std.proofs.lemmas.List.{get_or-take, get_or-drop, length-take, length-drop}
+use Rattle.std.proofs.lemmas.Bool.{and_parts, cases_Bool, cases_lt, cond-false, cond-true, eqb-true, eqb-false, lt-ltb, le-ltb, lt-leb, le-leb, ne_eqb, eq-eqb}
+use Rattle.std.proofs.lemmas.List.{get_or-set_other, get_or-set_same, get_or-take, length-set, get_or-drop, length-take, length-drop}
 use Rattle.std.proofs.lemmas.List.Sums.{fold-append, fold_more, sum_by-cons}
 use Rattle.link_params.specs.declared.fields.Params.{Params}
 use Rattle.link_params.specs.declared.alarms.Device.{Device}
@@ -277,6 +277,31 @@ after-happens lanes s t runs h before run =
     (delay-now s lane t (runs lane).delay h (before lane).0)
     (dead-now s lane t (runs lane).dead h (before lane).1)) run
 
+-- ---- one lane
+
+-- one of the lanes went on, the others stand as they were
+pub have-one : (lanes : List LanePair) (s : Plan) (runs : ℕ → LaneRun) (lane : ℕ) (y : LanePair)
+    (x : LaneRun) → lane < length lanes → HasRunLane y.lane s lane x → HaveRunLanes lanes s runs
+    → HaveRunLanes (set lanes lane y) s (with_lane runs lane x)
+have-one lanes s runs lane y x inside one run = (
+  length-set lanes lane y ∙ run.0,
+  λ k d below. elim (cases_Bool (k == lane)) [
+    | inl here ↦
+        let is = eqb-true k lane here in
+        subst (HasRunLane (get_or (set lanes lane y) k d).lane s k)
+        (sym (cond-true (k == lane) x (runs k) here))
+        (subst (λ j. HasRunLane (get_or (set lanes lane y) j d).lane s j x) (sym is)
+        (subst (λ (z : LanePair). HasRunLane z.lane s lane x)
+        (sym (get_or-set_same lanes lane y d inside)) one))
+    | inr other ↦
+        subst (HasRunLane (get_or (set lanes lane y) k d).lane s k)
+        (sym (cond-false (k == lane) x (runs k) other))
+        (subst (λ (z : LanePair). HasRunLane z.lane s k (runs k))
+        (sym (get_or-set_other lanes lane k y d (λ e. eqb-false k lane other e)))
+        (run.1 k d below))
+  ],
+)
+
 -- ---- one event
 
 abbrev pub one : What → ℕ → LaneRun → LaneRun
@@ -383,6 +408,7 @@ pub have-plan : (link : Option Link) (s : Scenario) → is_some link ≡ true
 have-plan None s some = absurd (cc)
 have-plan (Some k) s some = (
   record {
+    version = s.version;
     link = k;
     ticks = s.ticks;
     print = s.print;
@@ -390,6 +416,9 @@ have-plan (Some k) s some = (
     events = s.events.items;
     jitters = s.jitters.items;
     flips = s.flips.items;
+    wire = s.wire.items;
+    route = s.route.items;
+    inverted = s.inverted.items;
   },
   refl,
 )

@@ -17,6 +17,8 @@ use Rattle.scenario.specs.declared.input.Input.{Input}
 use Rattle.scenario.specs.declared.input.Input.TheVariants as input
 use Rattle.scenario.specs.declared.scenario_type.Scenario.{Scenario}
 use Rattle.scenario.specs.Inputs.{input_words}
+use Rattle.scenario.specs.Limits.{is_order}
+use Rattle.link_run.proofs.PlanFacts.{plan-facts}
 use Rattle.scenario.specs.Plans.{Plan, source_word, source_in, source_frame, numbers_from, plan_of, plan_with}
 use Rattle.link_run.specs.kept.Seen.{HasFeedSizes, HasRoom}
 
@@ -60,6 +62,17 @@ some_plan_in (Some k) s e = (_, refl)
 
 pub same_params : (s : Scenario) (plan : Plan) → plan_of s ≡ Some plan → plan.link.params ≡ s.shape
 same_params s plan is = same_params_in s.link s plan is s.same_shape
+
+-- its lanes are wired and routed each to one
+pub are-orders : (s : Scenario) (plan : Plan) → plan_of s ≡ Some plan
+    → (is_order plan.link.params.l plan.wire ≡ true)
+    × (is_order plan.link.params.l plan.route ≡ true)
+are-orders s plan is =
+    let facts = plan-facts s plan is in
+    let same = same_params s plan is in (
+      rw (facts.wire, same) s.wire_lanes,
+      rw (facts.route, same) s.route_lanes,
+    )
 
 -- a scenario with a link has a plan
 pub some_plan : (s : Scenario) → is_some s.link ≡ true → (plan : Plan) × (plan_of s ≡ Some plan)

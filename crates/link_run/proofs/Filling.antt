@@ -1,5 +1,5 @@
 -- The cells of a lane that are taken from its ring and wait.
-use Rattle.std.proofs.Common.{◌≡◌, ◌≢◌, ◌∙◌, ◌<◌, ◌≤◌, ◌+◌, ℕ, List, [], ◌∷◌, ◌++◌, length, get_or, set, drop, inl, inr, refl, arith, sym, ap, subst, append_assoc, append-nil, length-append, length-drop, length-set}
+use Rattle.std.proofs.Common.{◌≡◌, ◌≢◌, ◌∙◌, ◌<◌, ◌≤◌, ◌+◌, ℕ, List, [], ◌∷◌, ◌++◌, length, get_or, slice_index, set, drop, inl, inr, refl, arith, sym, ap, subst, append_assoc, append-nil, length-append, length-drop, length-set}
 use Rattle.std.proofs.lemmas.Bool.{cases_lt}
 use Rattle.std.proofs.lemmas.List.{drop-append-le, get_or-set_same, get_or-set_other, get_or_default}
 use Rattle.rtrb.specs.Ring.{SameConsumer, known_items, received}
@@ -91,62 +91,81 @@ filled old now next items before after h is room full = record {
 
 -- ---- one lane after another
 
--- the ends of the first n lanes gave their cells
-pub record AreFilling (old now : List Waits) (before after : List CellEnd) (n : ℕ) : Type 0 where
+-- no two lanes have the same place
+abbrev pub AreApart : List ℕ → ℕ → Type 0
+AreApart route l = (i j : ℕ) → i < l → j < l → slice_index route i ≡ slice_index route j → i ≡ j
+
+-- the ends of the first n lanes gave their cells, which wait at the places of the lanes
+pub record AreFilling (old now : List Waits) (before after : List CellEnd) (route : List ℕ) (n : ℕ)
+    : Type 0 where
   pub count : length now ≡ length old
   pub end_count : length after ≡ length before
   pub filled : (k : ℕ) (w : Waits) (e : CellEnd) → k < n → k < length before
-      → IsFilled (get_or old k w) (get_or now k w) (get_or before k e) (get_or after k e)
-  pub waits_stood : (k : ℕ) (w : Waits) → n ≤ k → get_or now k w ≡ get_or old k w
+      → IsFilled (get_or old (slice_index route k) w) (get_or now (slice_index route k) w)
+      (get_or before k e) (get_or after k e)
+  pub waits_stood : (k : ℕ) (w : Waits) → n ≤ k → k < length before
+      → get_or now (slice_index route k) w ≡ get_or old (slice_index route k) w
   pub ends_stood : (k : ℕ) (e : CellEnd) → n ≤ k → get_or after k e ≡ get_or before k e
 
-pub are-filling-none : (waits : List Waits) (ends : List CellEnd)
-    → AreFilling waits waits ends ends 0
-are-filling-none waits ends = record {
+pub are-filling-none : (waits : List Waits) (ends : List CellEnd) (route : List ℕ)
+    → AreFilling waits waits ends ends route 0
+are-filling-none waits ends route = record {
   count = refl;
   end_count = refl;
   filled = λ k w e low below. absurd (omega arith);
-  waits_stood = λ k w from. refl;
+  waits_stood = λ k w from in_list. refl;
   ends_stood = λ k e from. refl;
 }
 
-pub are-filling-more : (old now : List Waits) (before after : List CellEnd) (n : ℕ) (y d : Waits)
-    (b e : CellEnd) → n < length now → n < length after
-    → IsFilled (get_or now n d) y (get_or after n e) b → AreFilling old now before after n
-    → AreFilling old (set now n y) before (set after n b) (n + 1)
-are-filling-more old now before after n y d b e below inside is h =
+pub are-filling-more : (old now : List Waits) (before after : List CellEnd) (route : List ℕ)
+    (n : ℕ) (y d : Waits) (b e : CellEnd) → AreApart route (length before)
+    → slice_index route n < length now → n < length after
+    → IsFilled (get_or now (slice_index route n) d) y (get_or after n e) b
+    → AreFilling old now before after route n
+    → AreFilling old (set now (slice_index route n) y) before (set after n b) route (n + 1)
+are-filling-more old now before after route n y d b e apart below inside is h =
+    let at : ℕ = slice_index route n in
+    let ends = h.end_count in
     let here : (w : Waits) (f : CellEnd)
-    → IsFilled (get_or old n w) (get_or (set now n y) n w) (get_or before n f)
+    → IsFilled (get_or old at w) (get_or (set now at y) at w) (get_or before n f)
     (get_or (set after n b) n f) =
     λ w f. rw (
-      get_or-set_same now n y w below,
+      get_or-set_same now at y w below,
       get_or-set_same after n b f inside,
-      ← h.waits_stood n w (omega arith),
+      ← h.waits_stood n w (omega arith) (omega arith),
       ← h.ends_stood n f (omega arith),
-      get_or_default now n w d below,
+      get_or_default now at w d below,
       get_or_default after n f e inside,
     ) is in
     record {
-      count = length-set now n y ∙ h.count;
+      count = length-set now at y ∙ h.count;
       end_count = length-set after n b ∙ h.end_count;
       filled = λ k w f low in_list. elim (cases_lt k n) [
-        | inl first ↦ let apart : k ≢ n = λ same. omega arith in
-            rw (get_or-set_other now n k y w apart, get_or-set_other after n k b f apart)
-            (h.filled k w f first in_list)
+        | inl first ↦
+            let other : k ≢ n = λ same. omega arith in
+            let away : slice_index route k ≢ at = λ same. other (apart k n in_list (omega arith) same) in
+            rw (
+              get_or-set_other now at (slice_index route k) y w away,
+              get_or-set_other after n k b f other,
+            ) (h.filled k w f first in_list)
         | inr after_it ↦
             let same : n ≡ k = omega arith in
-            subst (λ (m : ℕ). IsFilled (get_or old m w) (get_or (set now n y) m w)
+            subst (λ (m : ℕ). IsFilled (get_or old (slice_index route m) w)
+            (get_or (set now at y) (slice_index route m) w)
             (get_or before m f) (get_or (set after n b) m f)) same (here w f)
       ];
-      waits_stood = λ k w from. let apart : k ≢ n = λ same. omega arith in
-          get_or-set_other now n k y w apart ∙ h.waits_stood k w (omega arith);
-      ends_stood = λ k f from. let apart : k ≢ n = λ same. omega arith in
-          get_or-set_other after n k b f apart ∙ h.ends_stood k f (omega arith);
+      waits_stood = λ k w from in_list.
+          let other : k ≢ n = λ same. omega arith in
+          let away : slice_index route k ≢ at = λ same. other (apart k n in_list (omega arith) same) in
+          get_or-set_other now at (slice_index route k) y w away ∙ h.waits_stood k w (omega arith) in_list;
+      ends_stood = λ k f from. let other : k ≢ n = λ same. omega arith in
+          get_or-set_other after n k b f other ∙ h.ends_stood k f (omega arith);
     }
 
-pub are-filled : (old now : List Waits) (before after : List CellEnd) (n : ℕ)
-    → AreFilling old now before after n → length before ≤ n → AreFilled old now before after
-are-filled old now before after n h all = record {
+pub are-filled : (old now : List Waits) (before after : List CellEnd) (route : List ℕ) (n : ℕ)
+    → AreFilling old now before after route n → length before ≤ n
+    → AreFilled old now before after route
+are-filled old now before after route n h all = record {
   count = h.count;
   end_count = h.end_count;
   each = λ lane w e below. h.filled lane w e (omega arith) below;

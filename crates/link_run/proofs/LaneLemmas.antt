@@ -1,5 +1,5 @@
 -- Loops over the lanes.
-use Rattle.std.proofs.Common.{◌≡◌, ◌≢◌, ◌<◌, ◌≤◌, ℕ, zero, suc, ◌+◌, ◌*◌, List, [], ◌∷◌, ◌++◌, map, length, get_or, set, take, refl, sym, ap, ap₂, ◌∙◌, subst, drop, inl, inr, arith, length-set, Option, None, max, fold}
+use Rattle.std.proofs.Common.{◌≡◌, ◌≢◌, ◌<◌, ◌≤◌, ℕ, zero, suc, ◌+◌, ◌*◌, List, [], ◌∷◌, ◌++◌, map, length, get_or, set, take, refl, sym, ap, ap₂, ◌∙◌, subst, drop, inl, inr, arith, length-set, Option, None, Some, max, fold}
 use Rattle.std.specs.Prelude.{All, IsTrue, true, nat_le, nat_lt, ◌&&◌, slice_index}
 use Rattle.std.proofs.lemmas.Bool.{and_parts, cases_lt, leb-true}
 use Rattle.std.proofs.lemmas.List.{get_or-set_same, get_or-set_other, get_or_push, get_or_append_left, get_or_default, length_push, map_more, append-nil, drop_all, take_all}
@@ -10,7 +10,9 @@ use Rattle.link_params.specs.Links.{Link}
 use Rattle.link_params.specs.Numbers.{width}
 use Rattle.scenario.specs.declared.plan.Flip.{Flip}
 use Rattle.scenario.specs.Limits.{flip_fits}
-use Rattle.scenario.specs.Plans.{Plan, numbers_from}
+use Rattle.scenario.specs.declared.scenario_type.Scenario.{Scenario}
+use Rattle.scenario.specs.Plans.{Plan, numbers_from, plan_of}
+use Rattle.link_model.specs.Wiring.{has_inverted_polarity, route_of}
 use Rattle.link_model.specs.Kinds.{kind_of}
 use Rattle.link_model.specs.kept.LaneRuns.{LaneRun, no_run}
 use Rattle.lane_threads.specs.kept.LaneEnds.{next_in, params_in}
@@ -180,19 +182,19 @@ pub record IsCleared (lane : ℕ) (x y : LanePair) : Type 0 where
 abbrev pub HasGiven : ℕ → LanePair → LanePair → Type 0
 HasGiven = λ lane x y. IsReady true x y
 
-pub record IsPut (i : ℕ) (handed : List ℕ) (lane : ℕ) (x y : LanePair) : Type 0 where
-  pub octets : y.octets.items ≡ set x.octets.items i (slice_index handed lane)
+pub record IsPut (wire : List ℕ) (i : ℕ) (handed : List ℕ) (lane : ℕ) (x y : LanePair) : Type 0 where
+  pub octets : y.octets.items ≡ set x.octets.items i (slice_index handed (slice_index wire lane))
   pub same : IsSameLane x y
 
-pub are-put : (old new : List LanePair) (n i : ℕ) (handed : List ℕ)
-    → HaveChanged (IsPut i handed) old new n → length new ≤ n → ArePut old new i handed
-are-put old new n i handed h all =
+pub are-put : (old new : List LanePair) (wire : List ℕ) (n i : ℕ) (handed : List ℕ)
+    → HaveChanged (IsPut wire i handed) old new n → length new ≤ n → ArePut old new wire i handed
+are-put old new wire n i handed h all =
     let same = h.count in
     record { put = λ lane d below. (h.changed lane d (omega arith)).octets }
 
-pub are-same-put : (old new : List LanePair) (n i : ℕ) (handed : List ℕ)
-    → HaveChanged (IsPut i handed) old new n → length new ≤ n → AreSameLanes old new
-are-same-put old new n i handed h all =
+pub are-same-put : (old new : List LanePair) (wire : List ℕ) (n i : ℕ) (handed : List ℕ)
+    → HaveChanged (IsPut wire i handed) old new n → length new ≤ n → AreSameLanes old new
+are-same-put old new wire n i handed h all =
     let same = h.count in
     record {
       count = h.count;
@@ -201,7 +203,7 @@ are-same-put old new n i handed h all =
 
 pub record IsReport (lane : ℕ) (x : LanePair) (report : LaneReport) : Type 0 where
   pub is : (s : Plan) (k : ℕ) (r : LaneRun) → HasRunLane x.lane s k r
-      → report ≡ (kind_of s.link.params).report s.link.params s.link.timing k r.taken
+      → report ≡ (kind_of s.link.params).report s.link.params s.link.timing (route_of s k) r.taken
 
 -- ---- lanes and ends that met
 
@@ -311,20 +313,6 @@ paired-more lanes ends n x y one h =
             rw (top, get_or_push lanes x d n long, get_or_push ends y e n same) one
       ];
     }
-
-pub record IsOpened (link : Link) (flips : List Flip) (ticks lane : ℕ) (x : LanePair) : Type 0 where
-  pub begins : (s : Plan) → s.link ≡ link → s.flips ≡ flips → s.ticks ≡ ticks
-      → HasRunLane x.lane s lane (no_run s)
-  pub same : params_in x.lane.tx ≡ link.params
-  pub next : next_in x.lane.tx ≡ None
-  pub fullest : x.fullest ≡ 0
-  pub room : x.room ≡ ticks
-  pub cells : sent x.ring ≡ []
-
--- nothing came to an end
-pub record IsOpenedEnd (lane : ℕ) (end : CellEnd) : Type 0 where
-  pub received_none : received end.ring ≡ []
-  pub known_none : known_items end.ring ≡ []
 
 -- flips lie within the ticks' bits
 pub fits-within : (p : Params) (ticks : ℕ) (flips : List Flip)

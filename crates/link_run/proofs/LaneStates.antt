@@ -35,7 +35,7 @@ plan-there s k is = some_plan s (ap is_some is)
 -- the lanes are as before the tick
 pub as-before : (s : Plan) (h : History) (t : ℕ) → length h ≡ t
     → AreAsBefore s t (λ lane. lane_run s h lane)
-as-before s h t e = λ lane. (ap (delay_before s lane) e, ap (dead_before s lane) e)
+as-before s h t e = λ lane. (ap (delay_before s lane) e, ap (dead_before s lane) e, refl)
 
 -- once the events of the tick have happened
 pub ready-is : (s : Plan) (h : History) (t lane : ℕ) (reset : Bool) → length h ≡ t
@@ -46,7 +46,7 @@ pub ready-is : (s : Plan) (h : History) (t lane : ℕ) (reset : Bool) → length
     } ≡ lane_ready s h lane
 ready-is s h t lane reset e is =
     same-runs _ _ (ap (λ b. if b then [] else (lane_run s h lane).handed) is
-    ∙ sym (ready-handed s h lane)) refl (rw e refl) (rw e refl) refl refl
+    ∙ sym (ready-handed s h lane)) refl refl (rw e refl) (rw e refl) refl refl refl
 
 -- the link of a plan is that of its scenario
 pub link-of : (s : Scenario) (k : Link) (plan : Plan) → s.link ≡ Some k → plan_of s ≡ Some plan

@@ -1,5 +1,5 @@
 -- How long the line of a row is.
-use Rattle.std.proofs.Common.{◌≡◌, ◌≤◌, ◌<◌, ◌+◌, ◌*◌, ◌^◌, ◌∙◌, ℕ, zero, suc, Bool, true, false, if◌then◌else◌, None, List, [], ◌∷◌, ◌++◌, length, codes, decimal, refl, ap, arith}
+use Rattle.std.proofs.Common.{◌≡◌, ◌≤◌, ◌<◌, ◌+◌, ◌*◌, ◌^◌, ◌∙◌, ℕ, zero, suc, Bool, true, false, nat_le, if◌then◌else◌, None, List, [], ◌∷◌, ◌++◌, length, codes, decimal, refl, ap, arith}
 use Rattle.std.proofs.Math.Nat.{mul-le-mul_left}
 use Rattle.std.proofs.lemmas.Fmt.{length-decimal-le}
 use Rattle.std.proofs.lemmas.List.{length-append}
@@ -84,21 +84,31 @@ phase-fields device.Rx off fit =
     let b = two-fields (codes "rx") off fit in
     omega (arith, a, b)
 
-length-alarm : (a : Alarm) → AlarmFits a → length (fields_text (alarm_fields a)) ≤ 38
-length-alarm (alarm.LaneWindow lane offset) fit =
+length-lane-id : (second : Bool) (lane lid : ℕ) → lane < 2 ^ 32 → lid < 2 ^ 32
+    → length (fields_text (if second then codes "lane_id" ∷ decimal lane ∷ decimal lid ∷ []
+    else codes "config_mismatch" ∷ decimal lane ∷ decimal 2 ∷ [])) ≤ 38
+length-lane-id true lane lid fit fits =
+    let a = three-fields (codes "lane_id") lane lid fit fits in omega (arith, a)
+length-lane-id false lane lid fit fits =
+    let a = three-fields (codes "config_mismatch") lane 2 fit (omega arith) in omega (arith, a)
+
+length-alarm : (v : ℕ) (a : Alarm) → AlarmFits a → length (fields_text (alarm_fields v a)) ≤ 38
+length-alarm v (alarm.LaneWindow lane offset) fit =
     let a = three-fields (codes "lane_window") lane offset fit.0 fit.1 in omega (arith, a)
-length-alarm (alarm.LaneMissing lane) fit =
+length-alarm v (alarm.LaneMissing lane) fit =
     let a = two-fields (codes "lane_missing") lane fit in omega (arith, a)
-length-alarm (alarm.LaneLost lane) fit =
+length-alarm v (alarm.LaneLost lane) fit =
     let a = two-fields (codes "lane_lost") lane fit in omega (arith, a)
-length-alarm (alarm.NoLock lane) fit =
+length-alarm v (alarm.NoLock lane) fit =
     let a = two-fields (codes "no_lock") lane fit in omega (arith, a)
-length-alarm (alarm.IlasFault lane place) fit =
+length-alarm v (alarm.IlasFault lane place) fit =
     let a = three-fields (codes "ilas_fault") lane place fit.0 fit.1 in omega (arith, a)
-length-alarm (alarm.ConfigMismatch lane octet) fit =
+length-alarm v (alarm.ConfigMismatch lane octet) fit =
     let a = three-fields (codes "config_mismatch") lane octet fit.0 fit.1 in omega (arith, a)
-length-alarm (alarm.SysrefPhase d off) fit = phase-fields d off fit
-length-alarm alarm.StartTimeout fit =
+length-alarm v (alarm.SysrefPhase d off) fit = phase-fields d off fit
+length-alarm v (alarm.LaneId lane lid) fit =
+    length-lane-id (nat_le 2 v) lane lid fit.0 fit.1
+length-alarm v alarm.StartTimeout fit =
     let a = one-field (codes "start_timeout") in omega (arith, a)
 
 -- the numbers of a legal link are short
@@ -163,9 +173,10 @@ length-mark mark.Ok = omega arith
 length-mark mark.Fixed = omega arith
 length-mark mark.Bad = omega arith
 
-link-line : (k : Link) (words : List ℕ) → AreShort k → length (line_of k row.Link words) ≤ 128
+link-line : (v : ℕ) (k : Link) (words : List ℕ) → AreShort k
+    → length (line_of v k row.Link words) ≤ 128
 unfolding line_of
-link-line k words are =
+link-line v k words are =
     let p = k.params in
     let t = k.timing in
     let last = decimal (bound p t) ∷ [] in
@@ -176,10 +187,10 @@ link-line k words are =
     let c = number-field (bound p t) [] are.bound_short in
     omega (arith, a, b, c)
 
-end-line : (k : Link) (n : Totals) (words : List ℕ) → RowFits (row.End n)
-    → length (line_of k (row.End n) words) ≤ 128
+end-line : (v : ℕ) (k : Link) (n : Totals) (words : List ℕ) → RowFits (row.End n)
+    → length (line_of v k (row.End n) words) ≤ 128
 unfolding line_of
-end-line k n words fit =
+end-line v k n words fit =
     let last = decimal n.fixed ∷ decimal n.bad ∷ decimal n.alarms ∷ decimal n.fullest ∷ [] in
     let a = length-line (codes "end") (decimal n.ticks ∷ decimal n.entered ∷ decimal n.delivered
     ∷ decimal n.ok ∷ last) in
@@ -187,38 +198,38 @@ end-line k n words fit =
     let c = four-fields n.fixed n.bad n.alarms n.fullest [] fit.fixed fit.bad fit.alarms fit.fullest in
     omega (arith, a, b, c)
 
-pub length-row : (k : Link) (r : Row) (words : List ℕ) → AreShort k → RowFits r
-    → length (line_of k r words) ≤ 128 + 9 * length words
+pub length-row : (v : ℕ) (k : Link) (r : Row) (words : List ℕ) → AreShort k → RowFits r
+    → length (line_of v k r words) ≤ 128 + 9 * length words
 unfolding line_of
-length-row k row.Link words are fit = let a = link-line k words are in omega (arith, a)
-length-row k (row.Hunt t) words are fit =
+length-row v k row.Link words are fit = let a = link-line v k words are in omega (arith, a)
+length-row v k (row.Hunt t) words are fit =
     let a = length-line (codes "hunt") (decimal t ∷ []) in
     let b = one-field (decimal t) in
     let c = short t fit in
     omega (arith, a, b, c)
-length-row k (row.Arm t) words are fit =
+length-row v k (row.Arm t) words are fit =
     let a = length-line (codes "arm") (decimal t ∷ []) in
     let b = one-field (decimal t) in
     let c = short t fit in
     omega (arith, a, b, c)
-length-row k (row.Release t) words are fit =
+length-row v k (row.Release t) words are fit =
     let a = length-line (codes "release") (decimal t ∷ []) in
     let b = one-field (decimal t) in
     let c = short t fit in
     omega (arith, a, b, c)
-length-row k (row.Alarm t x) words are fit =
-    let a = length-line (codes "alarm") (decimal t ∷ alarm_fields x) in
-    let b = length-field (decimal t) (alarm_fields x) in
+length-row v k (row.Alarm t x) words are fit =
+    let a = length-line (codes "alarm") (decimal t ∷ alarm_fields v x) in
+    let b = length-field (decimal t) (alarm_fields v x) in
     let c = short t fit.0 in
-    let d = length-alarm x fit.1 in
+    let d = length-alarm v x fit.1 in
     omega (arith, a, b, c, d)
-length-row k (row.Enter o) words are fit =
+length-row v k (row.Enter o) words are fit =
     let a = length-line (codes "enter") (decimal o ∷ word_fields k.params words) in
     let b = length-field (decimal o) (word_fields k.params words) in
     let c = short o fit in
     let d = length-words k.params words are.digits in
     omega (arith, a, b, c, d)
-length-row k (row.Frame o m) words are fit =
+length-row v k (row.Frame o m) words are fit =
     let a = length-line (codes "frame") (decimal o ∷ mark_name m ∷ word_fields k.params words) in
     let b = length-field (decimal o) (mark_name m ∷ word_fields k.params words) in
     let c = length-field (mark_name m) (word_fields k.params words) in
@@ -226,7 +237,7 @@ length-row k (row.Frame o m) words are fit =
     let e = length-mark m in
     let f = length-words k.params words are.digits in
     omega (arith, a, b, c, d, e, f)
-length-row k (row.End n) words are fit = let a = end-line k n words fit in omega (arith, a)
+length-row v k (row.End n) words are fit = let a = end-line v k n words fit in omega (arith, a)
 
 -- what the words of a row need
 pub has-few : (p : Params) (r : Row) (words : List ℕ) → HasWords p r words

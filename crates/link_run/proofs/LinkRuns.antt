@@ -15,6 +15,8 @@ use Rattle.lane_threads.specs.kept.LaneRuns.{HasRunLane}
 use Rattle.link_model.proofs.LaneHistory.{has-hunt-run, lane-run-none}
 use Rattle.link_model.specs.Edges.{is_reset}
 use Rattle.link_model.specs.Kinds.{kind_of, moment_of, run_of}
+use Rattle.scenario.specs.Limits.{is_order}
+use Rattle.link_model.specs.Wiring.{has_inverted_polarity}
 use Rattle.link_model.specs.kept.LaneRuns.{LaneRun, lane_ready, lane_run, lane_stepped, no_run}
 use Rattle.link_model.specs.Run.{run}
 use Rattle.link_run.proofs.Collecting.{cells-last, cells-still, running}
@@ -101,16 +103,17 @@ same-at old now p next h at lane d below =
 -- ---- the segment is carried
 
 pub is-carried : (old now : List LanePair) (g : Planned) (after : Planning) (s : Plan) (t m : ℕ)
-    (first : Option ℕ) → IsLegalLink s
+    (first : Option ℕ) → IsLegalLink s → is_order s.link.params.l s.wire ≡ true
     → HaveRunLanes old s (lane_ready s (run_of s t)) → HaveRings old s t t
     → AreAt old s.link.params first → AreSameLanes old now
     → IsPlanned g after now s t m → length g.steps ≡ suc m
     → FollowOn g.steps s.link.params first (next_of s.link.params after.tx.sending)
     (length g.steps)
     → IsCarried now g s t m first (next_of s.link.params after.tx.sending)
-is-carried old now g after s t m first legal ran rings at same planned count follows = record {
+is-carried old now g after s t m first legal wire ran rings at same planned count follows = record {
   laws = legal.laws;
   timing = legal.timing;
+  wire = wire;
   runs = same-runs old now s (lane_ready s (run_of s t)) same ran;
   rings = same-rings old now s t t same rings;
   at_first = same-at old now s.link.params first same at;
@@ -174,7 +177,8 @@ is-ready x old now s t had h =
 
 -- the lanes can run what was planned
 pub planned-carried : (v : LinkView) (x : Happened) (s : Plan) (t m : ℕ) (mid : List LanePair)
-    (g : Planned) (after : Planning) → IsLegalLink s → IsReady x v s t → AreSameLanes v.lanes mid
+    (g : Planned) (after : Planning) → IsLegalLink s → is_order s.link.params.l s.wire ≡ true
+    → IsReady x v s t → AreSameLanes v.lanes mid
     → IsPlanned g after mid s t m → length g.steps ≡ suc m
     → FollowOn g.steps v.planning.link.params
     (if x.tx_reset then None else next_of v.planning.link.params v.planning.tx.sending)
@@ -182,9 +186,9 @@ pub planned-carried : (v : LinkView) (x : Happened) (s : Plan) (t m : ℕ) (mid 
     → IsCarried mid g s t m
     (if x.tx_reset then None else next_of s.link.params v.planning.tx.sending)
     (next_of s.link.params after.tx.sending)
-planned-carried v x s t m mid g after legal ready same planned count follows =
+planned-carried v x s t m mid g after legal wire ready same planned count follows =
     is-carried v.lanes mid g after s t m
-    (if x.tx_reset then None else next_of s.link.params v.planning.tx.sending) legal ready.lanes
+    (if x.tx_reset then None else next_of s.link.params v.planning.tx.sending) legal wire ready.lanes
     ready.rings ready.at_next same planned count
     (subst (λ (k : Link). FollowOn g.steps k.params
     (if x.tx_reset then None else next_of k.params v.planning.tx.sending)
@@ -203,7 +207,7 @@ pub carried-on : (v : LinkView) (x : Happened) (s : Plan) (t m : ℕ) (mid lanes
     (g : Planned) (after : Planning) (now : Collecting) → IsReady x v s t
     → after.link ≡ v.planning.link → g.room ≡ v.latest.segment.room → AreSameLanes v.lanes mid
     → IsPlanned g after mid s t m → AreOnRings mid lanes
-    → AreFilled v.collecting.waiting now.waiting v.collecting.ends now.ends
+    → AreFilled v.collecting.waiting now.waiting v.collecting.ends now.ends v.collecting.route
     → HaveRunLanes lanes s (lane_stepped (kind_of s.link.params) s (run_of s (t + m)))
     → HaveRings lanes s (t + m) (t + suc m)
     → AreAt lanes s.link.params (next_of s.link.params after.tx.sending)
@@ -215,7 +219,7 @@ carried-on v x s t m mid lanes g after now ready link room same planned on fille
         same_planning = link ∙ ready.sized.same_planning;
         room = subst (λ (n : ℕ). period s.link.params ≤ n) (sym room) ready.sized.room;
         last_room = ready.sized.last_room;
-        pairs = filled-pairs lanes _ _ _ _ filled (pairs-on mid lanes v.collecting.ends on
+        pairs = filled-pairs lanes _ _ _ _ _ filled (pairs-on mid lanes v.collecting.ends on
             (pairs-kept v.lanes mid v.collecting.ends (keeps-same v.lanes mid same)
             ready.sized.pairs));
       };
@@ -349,11 +353,11 @@ up-to e s from t before = elim before [
 -- ---- the cells that the ends know of are taken
 
 pub has-filled : (v : LinkView) (now : Collecting) (s : Plan) (t : ℕ) → HasRunLanes v s t
-    → AreFilled v.collecting.waiting now.waiting v.collecting.ends now.ends
+    → AreFilled v.collecting.waiting now.waiting v.collecting.ends now.ends v.collecting.route
     → HasRunLanes (with_met v v.lanes now) s t
 has-filled v now s t h filled =
     has-met v v.lanes now s t h
-    (filled-pairs v.lanes _ _ _ _ filled h.sized.pairs) (λ runs had. had) (λ given held had. had)
+    (filled-pairs v.lanes _ _ _ _ _ filled h.sized.pairs) (λ runs had. had) (λ given held had. had)
     (λ p next had. had)
 
 -- the ends have met the lanes, and the cells from tick `from` on and before tick t were taken
@@ -367,16 +371,20 @@ pub has-taken : (v : LinkView) (old now : Collecting) (s : Plan) (from t : ℕ) 
     → ((n : ℕ) → HasRunLanes v s (from + n) → HaveCells old.ends s from n)
     → old ≡ record v.collecting { ends = old.ends }
     → now ≡ record old { ends = now.ends; waiting = now.waiting }
-    → AreFilled old.waiting now.waiting old.ends now.ends → HasTaken now s from t
-has-taken v old now s from t h ends knows is same filled =
+    → AreFilled old.waiting now.waiting old.ends now.ends old.route
+    → HasTaken now s from t
+has-taken v old now s from t h ends knows is same filled_there =
     let (within, short) = up-to v.last s from t h.before in
     let had = h.collected in
     let m = period s.link.params in
+    let order = had.order in
     let n = t - from in
     let all : from + n ≡ t = omega arith in
     let met : HasCollected (record v.collecting { ends = old.ends }) s from = record {
       end_count = ends;
       wait_count = had.wait_count;
+      route_is = had.route_is;
+      order = had.order;
       room = had.room;
       lead_is = had.lead_is;
       ahead_is = had.ahead_is;
@@ -387,12 +395,14 @@ has-taken v old now s from t h ends knows is same filled =
     (sym (ap (λ (k : Collecting). k.waiting) is)) h.none_waits in
     let count : length old.waiting ≡ length old.ends = stays.wait_count ∙ sym ends in
     let known = knows n (subst (HasRunLanes v s) (sym all) h.ran) in
+    let filled = subst (AreFilled old.waiting now.waiting old.ends now.ends) stays.route_is
+    filled_there in
     record {
       collected = filled-collected old now s from same filled stays;
-      waiting = filled-waiting old.waiting now.waiting old.ends now.ends s from n m count filled
+      waiting = filled-waiting old.waiting now.waiting old.ends now.ends s from n m count ends order filled
           none stays.room short known;
       cells = subst (λ (k : ℕ). HaveCells now.ends s k 0) all
-          (filled-cells old.waiting now.waiting old.ends now.ends s from n m count filled none
+          (filled-cells old.waiting now.waiting old.ends now.ends s from n m count ends order filled none
           stays.room short known);
     }
 
@@ -529,7 +539,8 @@ pub run-none : (v : LinkView) (s : Plan) → v.link ≡ s.link → v.planning.li
     → period s.link.params ≤ v.latest.segment.room → period s.link.params ≤ v.last.segment.room
     → v.last.segment.steps ≡ [] → ArePairs v.lanes v.collecting.ends
     → HasPlanned v.planning s 0 → next_of s.link.params v.planning.tx.sending ≡ None
-    → HaveRunLanes v.lanes s (λ lane. no_run s) → HaveRings v.lanes s 0 0
+    → HaveRunLanes v.lanes s (λ lane. record (no_run s) { inverted = has_inverted_polarity s lane })
+    → HaveRings v.lanes s 0 0
     → AreAt v.lanes s.link.params None → HasCollected v.collecting s 0
     → HaveCells v.collecting.ends s 0 0 → HaveWaiting v.collecting.waiting s 0 0 → HasRun v s 0 0
 unfolding run
@@ -544,7 +555,7 @@ run-none v s link planning room last empty pairs planned none runs rings at coll
           pairs = pairs;
         };
         planned = planned;
-        lanes = have-same v.lanes s (λ lane. no_run s) (lane_run s (run_of s 0))
+        lanes = have-same v.lanes s (λ lane. record (no_run s) { inverted = has_inverted_polarity s lane }) (lane_run s (run_of s 0))
             (λ lane below. sym (lane-run-none s lane)) runs;
         rings = rings;
         at_next = subst (AreAt v.lanes s.link.params) (sym none) at;

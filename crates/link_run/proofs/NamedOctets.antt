@@ -17,7 +17,7 @@ use Rattle.link_params.specs.Numbers.{period}
 use Rattle.code_8b10b.specs.declared.character.Reading.{Reading}
 use Rattle.code_8b10b.specs.declared.character.Reading.TheVariants.{Char as Read, Disparity, Invalid}
 use Rattle.ilas.specs.Sequence.{ilas_char}
-use Rattle.ilas.specs.Checked.{cause_at, config_cause, config_read, fault_or, first_fault, ilas_state, is_allowed}
+use Rattle.ilas.specs.Checked.{cause_at, config_cause, config_read, difference, fault_or, first_fault, ilas_state, is_allowed}
 use Rattle.lane_b.specs.Locking.{Lock, lock, since_start}
 use Rattle.lane_b.specs.Received.{lanes_b, report_b, report_of}
 use Rattle.multiblock.specs.Places.{Place}
@@ -35,12 +35,12 @@ from-place true true cause is = (refl, is)
 from-place true false cause is = absurd (cc)
 from-place false inside cause is = absurd (cc)
 
-from-octet : (last sum other : Bool)
-    → (if last then (if sum then None else Some Fchk) else (if other then Some Config else None))
+from-octet : (last sum other : Bool) (cause : IlasCause)
+    → (if last then (if sum then None else Some Fchk) else (if other then Some cause else None))
     ≡ Some Config → last ≡ false
-from-octet true true other is = absurd (cc)
-from-octet true false other is = absurd (cc)
-from-octet false sum other is = refl
+from-octet true true other cause is = absurd (cc)
+from-octet true false other cause is = absurd (cc)
+from-octet false sum other cause is = refl
 
 config-at : (p : Params) (lane : ℕ) (readings : List Reading) (y : ℕ) (r : Reading)
     → cause_at p lane readings y r ≡ Some Config
@@ -53,7 +53,7 @@ config-at p lane readings y (Read c) is =
     let f = from-place (is_allowed (ilas_char p lane y) c) (nat_le first y && nat_lt y (first + 14))
     (config_cause p lane readings (y - first) (octet_of_char c)) is in
     let last = from-octet (y - first == 13) (has_sum (config_read p readings))
-    (differs p lane (y - first) (octet_of_char c)) f.1 in
+    (differs p lane (y - first) (octet_of_char c)) (difference (y - first) (octet_of_char c)) f.1 in
     let b = and_parts (nat_le first y) (nat_lt y (first + 14)) f.0 in
     let low : first ≤ y = leb-true first y b.0 in
     let high : y < first + 14 = ltb-true y (first + 14) b.1 in
@@ -127,15 +127,17 @@ names-octet p t lane taken = of-kind (is_b p.mode) p t lane taken
 
 -- ---- the reports of several lanes
 
-name-octets : (lanes : List ℕ) (p : Params) (t : Timing) (f : ℕ → List Taken) (k : ℕ)
-    (d : LaneReport) → k < length lanes
-    → NamesOctet p (get_or (map (λ lane. (kind_of p).report p t lane (f lane)) lanes) k d)
-name-octets [] p t f k d below = absurd (omega arith)
-name-octets (lane ∷ lanes) p t f zero d below = names-octet p t lane (f lane)
-name-octets (lane ∷ lanes) p t f (suc k) d below = name-octets lanes p t f k d (omega arith)
+name-octets : (lanes : List ℕ) (p : Params) (t : Timing) (own : ℕ → ℕ) (f : ℕ → List Taken)
+    (k : ℕ) (d : LaneReport) → k < length lanes
+    → NamesOctet p (get_or (map (λ lane. (kind_of p).report p t (own lane) (f lane)) lanes) k d)
+name-octets [] p t own f k d below = absurd (omega arith)
+name-octets (lane ∷ lanes) p t own f zero d below = names-octet p t (own lane) (f lane)
+name-octets (lane ∷ lanes) p t own f (suc k) d below =
+    name-octets lanes p t own f k d (omega arith)
 
-pub names-octets : (p : Params) (t : Timing) (f : ℕ → List Taken) (lanes : List ℕ)
-    → All (NamesOctet p) (map (λ lane. (kind_of p).report p t lane (f lane)) lanes)
-names-octets p t f lanes = λ k d below.
-    let long = length-map lanes (λ lane. (kind_of p).report p t lane (f lane)) in
-    name-octets lanes p t f k d (omega arith)
+-- each lane is set to be the lane `own` of the frame
+pub names-octets : (p : Params) (t : Timing) (own : ℕ → ℕ) (f : ℕ → List Taken) (lanes : List ℕ)
+    → All (NamesOctet p) (map (λ lane. (kind_of p).report p t (own lane) (f lane)) lanes)
+names-octets p t own f lanes = λ k d below.
+    let long = length-map lanes (λ lane. (kind_of p).report p t (own lane) (f lane)) in
+    name-octets lanes p t own f k d (omega arith)

@@ -11,6 +11,10 @@ pub record IsPlan (s : Scenario) (plan : Plan) : Type 0 where
   pub events : plan.events ≡ s.events.items
   pub jitters : plan.jitters ≡ s.jitters.items
   pub flips : plan.flips ≡ s.flips.items
+  pub version : plan.version ≡ s.version
+  pub wire : plan.wire ≡ s.wire.items
+  pub route : plan.route ≡ s.route.items
+  pub inverted : plan.inverted ≡ s.inverted.items
 
 plan-with : (link : Option Link) (s : Scenario) (plan : Plan) → s.link ≡ link
     → plan_with link s ≡ Some plan → IsPlan s plan
@@ -22,6 +26,10 @@ plan-with (Some k) s plan of is = record {
   events = sym (ap (λ o. (unwrap_or o plan).events) is);
   jitters = sym (ap (λ o. (unwrap_or o plan).jitters) is);
   flips = sym (ap (λ o. (unwrap_or o plan).flips) is);
+  version = sym (ap (λ o. (unwrap_or o plan).version) is);
+  wire = sym (ap (λ o. (unwrap_or o plan).wire) is);
+  route = sym (ap (λ o. (unwrap_or o plan).route) is);
+  inverted = sym (ap (λ o. (unwrap_or o plan).inverted) is);
 }
 
 pub plan-facts : (s : Scenario) (plan : Plan) → plan_of s ≡ Some plan → IsPlan s plan

@@ -20,6 +20,7 @@ use Rattle.link_model.specs.Edges.{is_reset, resets}
 use Rattle.link_model.specs.Hunts.{standing}
 use Rattle.link_model.specs.Kinds.{kind_of, moment_of, run_of}
 use Rattle.link_model.specs.kept.Before.{dead_before, decisions_before, delay_before}
+use Rattle.link_model.specs.Wiring.{wire_of}
 use Rattle.link_model.specs.kept.LaneRuns.{lane_ready, lane_run}
 use Rattle.link_model.specs.Moments.{History}
 use Rattle.link_model.specs.Run.{stage_after}
@@ -132,8 +133,8 @@ calm-lane s h lane up same =
     same-runs (lane_ready s h lane) (lane_run s h lane)
     (ready-handed s h lane
     ∙ ap (λ (b : Bool). if b then [] else (lane_run s h lane).handed)
-    (calm-reset s Tx (length h) up same)) refl (calm-delay s lane (length h) up same)
-    (calm-dead s lane (length h) up same) refl refl
+    (calm-reset s Tx (length h) up same)) refl refl (calm-delay s lane (length h) up same)
+    (calm-dead s lane (length h) up same) refl refl refl
 
 -- ---- the stage of ticks without a decision
 
@@ -191,13 +192,13 @@ steps-more old now s t n has steps edges =
     }
 
 pub octets-more : (old now : List LanePair) (s : Plan) (t n : ℕ) → HaveOctets old s t n
-    → AreSameLanes old now → ArePut old now n (moment_of s (run_of s (t + n))).handed
+    → AreSameLanes old now → ArePut old now s.wire n (moment_of s (run_of s (t + n))).handed
     → ((lane : ℕ) (d : LanePair) → lane < length old → n < length (get_or old lane d).octets.items)
     → HaveOctets now s t (suc n)
 octets-more old now s t n have same put fits = λ lane i d inside below.
     let here : lane < length old = omega (arith, same.count) in
     let items : List ℕ = (get_or old lane d).octets.items in
-    let due : ℕ = slice_index (moment_of s (run_of s (t + n))).handed lane in
+    let due : ℕ = slice_index (moment_of s (run_of s (t + n))).handed (wire_of s lane) in
     elim (cases_lt i n) [
       | inl earlier ↦
           ap (λ (xs : List ℕ). slice_index xs i) (put.put lane d here)
@@ -207,7 +208,7 @@ octets-more old now s t n have same put fits = λ lane i d inside below.
           let at : i ≡ n = omega arith in
           ap (λ (xs : List ℕ). slice_index xs i) (put.put lane d here)
           ∙ get_or-set_at items n i due 0 at (fits lane d here)
-          ∙ ap (λ (j : ℕ). slice_index (moment_of s (run_of s (t + j))).handed lane) (sym at)
+          ∙ ap (λ (j : ℕ). slice_index (moment_of s (run_of s (t + j))).handed (wire_of s lane)) (sym at)
     ]
 
 before-same : (steps : List Step) (step : Step) (p : Params) (first : Option ℕ) (i : ℕ)
@@ -264,7 +265,7 @@ pub plan-first : (old now planned : Planned) (before after : Planning) (lanes ne
     → HasPlannedTick old now before after reset s t → now.rx_reset ≡ is_reset s Rx t
     → after.link ≡ s.link → after.next ≡ are_past s (t + 1)
     → gives ≡ is_running (standing s (run_of s t)).stage
-    → AreSameLanes lanes new → ArePut lanes new 0 after.tx.handed → Fits lanes 0
+    → AreSameLanes lanes new → ArePut lanes new s.wire 0 after.tx.handed → Fits lanes 0
     → planned ≡ record now { gives = gives } → IsPlanning planned after new s t 0
 plan-first old now planned before after lanes new reset gives s t empty bare ticks some
     tick_here rx_reset link next stage same put fits is =
@@ -288,7 +289,7 @@ plan-first old now planned before after lanes new reset gives s t empty bare tic
         };
         octets =
             octets-more lanes new s t 0 (λ lane i d inside below. absurd (omega arith)) same
-            (subst (ArePut lanes new 0) tick.sent.handed put) fits;
+            (subst (ArePut lanes new s.wire 0) tick.sent.handed put) fits;
         one = record {
           within = omega arith;
           short = some;
@@ -317,7 +318,7 @@ pub plan-more : (old now : Planned) (before mid after : Planning) (lanes new : L
     → HasPlannedTick old now mid after false s (t + suc m)
     → now.gives ≡ old.gives → now.rx_reset ≡ old.rx_reset
     → after.next ≡ before.next → after.link ≡ before.link
-    → AreSameLanes lanes new → ArePut lanes new (suc m) after.tx.handed → Fits lanes (suc m)
+    → AreSameLanes lanes new → ArePut lanes new s.wire (suc m) after.tx.handed → Fits lanes (suc m)
     → IsPlanning now after new s t (suc m)
 plan-more old now before mid after lanes new s t m x stays up within short calm tick gives rx_reset
     next link same put fits =
@@ -335,7 +336,7 @@ plan-more old now before mid after lanes new s t m x stays up within short calm 
         has_steps = steps-more old now s t (suc m) p.has_steps tick.steps tick.edges;
         octets =
             octets-more lanes new s t (suc m) p.octets same
-            (subst (ArePut lanes new (suc m)) tick.sent.handed put) fits;
+            (subst (ArePut lanes new s.wire (suc m)) tick.sent.handed put) fits;
         one = record {
           within = within;
           short = short;

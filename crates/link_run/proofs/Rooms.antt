@@ -12,6 +12,7 @@ use Rattle.link_model.proofs.LaneHistory.{has-hunt-run, took-stepped}
 use Rattle.link_model.specs.Kinds.{kind_of, moment_of, run_of}
 use Rattle.link_model.specs.kept.LaneRuns.{lane_stepped}
 use Rattle.link_model.specs.Moments.{History}
+use Rattle.link_model.specs.Wiring.{route_of}
 use Rattle.lane_threads.proofs.KindEnds.{buffer-count}
 use Rattle.lane_threads.specs.declared.lane_pair.LanePair.{LanePair}
 use Rattle.link_run.specs.kept.LaneRuns.{HaveRunLanes, HaveEntries}
@@ -32,7 +33,7 @@ stepped-entry lanes s t good ran runs lane d below =
     let within : lane < p.l = omega (arith, ran.0) in
     let r = ran.1 lane d within in
     let entry = has-entry k t s lane (facts-of p s.link.timing) good.laws good.timing within runs in
-    let same = ap (λ (taken : List Taken). length (k.entries p s.link.timing lane taken))
+    let same = ap (λ (taken : List Taken). length (k.entries p s.link.timing (route_of s lane) taken))
     (took-stepped k s h lane (has-hunt-run k t s)) in
-    let count = buffer-count (get_or lanes lane d).lane.rx p s.link.timing lane _ _ r.rx in
+    let count = buffer-count (get_or lanes lane d).lane.rx p s.link.timing (route_of s lane) _ _ r.rx in
     rw count (let n = rw same at entry in omega arith)

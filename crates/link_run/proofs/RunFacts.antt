@@ -20,6 +20,7 @@ use Rattle.link_model.specs.Hunts.{session}
 use Rattle.link_model.specs.Kinds.{kind_of, run_of}
 use Rattle.link_model.specs.kept.LaneRuns.{held_by, lane_stepped}
 use Rattle.link_model.specs.Moments.{History}
+use Rattle.link_model.specs.Wiring.{route_of}
 
 -- the premises of the lemmas on a tick
 pub record IsRunOf (s : Plan) (h : History) : Type 0 where
@@ -52,12 +53,12 @@ is-run t s laws timing =
 -- ---- the lanes after a tick, as each went through it
 
 pub reports-lanes : (k : LaneKind) (s : Plan) (h : History) → HasHunt h
-    → map (λ l. k.report s.link.params s.link.timing l (lane_stepped k s h l).taken) (lanes_of s)
+    → map (λ l. k.report s.link.params s.link.timing (route_of s l) (lane_stepped k s h l).taken) (lanes_of s)
     ≡ (next k s h).reports
 reports-lanes k s h begun =
-    map-numbers (λ l. k.report s.link.params s.link.timing l (lane_stepped k s h l).taken)
-    (λ l. k.report s.link.params s.link.timing l (took k s h l)) s.link.params.l 0
-    (λ l below. ap (k.report s.link.params s.link.timing l) (sym (took-stepped k s h l begun)))
+    map-numbers (λ l. k.report s.link.params s.link.timing (route_of s l) (lane_stepped k s h l).taken)
+    (λ l. k.report s.link.params s.link.timing (route_of s l) (took k s h l)) s.link.params.l 0
+    (λ l below. ap (k.report s.link.params s.link.timing (route_of s l)) (sym (took-stepped k s h l begun)))
     ∙ sym (reports-next k s h)
 
 pub held-lanes : (k : LaneKind) (s : Plan) (h : History) → HasHunt h
@@ -65,8 +66,8 @@ pub held-lanes : (k : LaneKind) (s : Plan) (h : History) → HasHunt h
 held-lanes k s h begun =
     held-next k s h
     ∙ map-map (λ (es : List Entry). length es - gives_in (session s h))
-    (λ l. k.entries s.link.params s.link.timing l (took k s h l)) (lanes_of s)
-    ∙ map-numbers (λ l. length (k.entries s.link.params s.link.timing l (took k s h l))
+    (λ l. k.entries s.link.params s.link.timing (route_of s l) (took k s h l)) (lanes_of s)
+    ∙ map-numbers (λ l. length (k.entries s.link.params s.link.timing (route_of s l) (took k s h l))
     - gives_in (session s h)) (held_by k s (λ l. lane_stepped k s h l)) s.link.params.l 0
-    (λ l below. ap (λ (xs : List Taken). length (k.entries s.link.params s.link.timing l xs)
+    (λ l below. ap (λ (xs : List Taken). length (k.entries s.link.params s.link.timing (route_of s l) xs)
     - gives_in (session s h)) (took-stepped k s h l begun))

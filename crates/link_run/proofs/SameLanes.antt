@@ -9,6 +9,7 @@ use Rattle.link_params.specs.Lanes.{Handed}
 use Rattle.link_params.specs.Laws.{is_b}
 use Rattle.link_params.specs.Numbers.{width}
 use Rattle.scenario.specs.Plans.{Plan}
+use Rattle.link_model.specs.Wiring.{route_of, wire_of}
 use Rattle.link_model.specs.kept.LaneRuns.{LaneRun}
 use Rattle.lane_threads.proofs.KindEnds.{width-b, width-c}
 use Rattle.lane_threads.specs.declared.tx_lane.TxLane.{TxLane}
@@ -120,7 +121,7 @@ pub have-widths : (lanes : List LanePair) (s : Plan) (runs : ℕ → LaneRun) (n
     → HaveRunLanes lanes s runs → AreAt lanes s.link.params next → HaveWidths lanes
 have-widths lanes s runs next run at lane d below =
     let inside : lane < s.link.params.l = omega (arith, run.0) in
-    width-sent (get_or lanes lane d).lane.tx s.link.params lane (runs lane).handed
+    width-sent (get_or lanes lane d).lane.tx s.link.params (wire_of s lane) (runs lane).handed
     (run.1 lane d inside).tx ∙ ap width (sym (at lane d below).0)
 
 -- and so have lanes that differ in their octets

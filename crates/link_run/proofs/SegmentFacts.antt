@@ -34,6 +34,7 @@ use Rattle.link_model.specs.Moments.{History}
 use Rattle.link_model.specs.Run.{decided_in, run}
 use Rattle.link_model.specs.Orders.{Observed, from_edge, order_b, order_c, since_boundary, tx_order}
 use Rattle.link_model.specs.Sends.{data_place, observed, order_of}
+use Rattle.link_model.specs.Wiring.{lane_for}
 use Rattle.link_run.proofs.Collecting.{ahead-left, cells-first, cells-late}
 use Rattle.link_run.proofs.RunFacts.{held-lanes, is-run}
 use Rattle.link_run.specs.Given.{cells_in, held_at, most_held}
@@ -143,7 +144,8 @@ can-collect v s t m i legal h within =
     let had = h.collected in
     let count = had.wait_count in (
       count ∙ ap (λ p. p.l) (sym had.gathered.same_params),
-      λ goes none lane w below.
+      λ goes none place w below.
+          let lane : ℕ = lane_for s place in
           let r = is-run (t + i) s legal.laws legal.timing in
           let runs = sym (runs-is v s t m i h within) ∙ goes in
           let hunts = hunt-is v s t m i h within in
@@ -151,10 +153,10 @@ can-collect v s t m i legal h within =
           let are = ahead-left s past c.lead c.ahead had.ahead_is in
           let first = had.lead_is in
           let late : lead s.link.params ≤ gives_in (session s past) = omega arith in
-          let all = ap length (cells-left v s t m i h within lane w below
+          let all = ap length (cells-left v s t m i h within place w below
           ∙ cells-first (m - i) s lane (t + i)
           ∙ ap (λ (xs : List LaneCell). xs ++ cells_in s lane (suc (t + i)) (m - i))
-          (cells-late s lane (t + i) r (omega arith) runs late)) in
+          (cells-late s place (t + i) r (omega arith) runs late)) in
           omega arith,
     )
 

@@ -11,6 +11,9 @@ use Rattle.lane_threads.specs.declared.cell_end.CellEnd.{CellEnd}
 use Rattle.lane_threads.specs.declared.lane_pair.LanePair.{LanePair}
 use Rattle.lane_threads.specs.Segments.{pushed}
 use Rattle.link_model.specs.Kinds.{kind_of, moment_of, run_of}
+use Rattle.link_model.specs.Wiring.{lane_for, route_of}
+use Rattle.link_model.proofs.Wirings.{lane-for-below, order-below, order-found}
+use Rattle.scenario.specs.Limits.{is_order}
 use Rattle.link_model.specs.kept.LaneRuns.{given_by, lane_stepped}
 use Rattle.link_run.specs.Given.{cells_at, cells_in}
 use Rattle.link_run.specs.kept.Collected.{Collecting, HasCollected}
@@ -27,16 +30,21 @@ room-next old now m h room lane w below =
     let long = room lane w (omega arith) in
     omega arith
 
-pub room-filled : (old now : List Waits) (before after : List CellEnd) (m : ℕ)
-    → length old ≡ length before → AreFilled old now before after → HaveRoom old m
-    → HaveRoom now m
-room-filled old now [] after m each h room lane w below =
+pub room-filled : (old now : List Waits) (before after : List CellEnd) (s : Plan) (m : ℕ)
+    → length old ≡ length before → length before ≡ s.link.params.l
+    → is_order s.link.params.l s.route ≡ true → AreFilled old now before after s.route
+    → HaveRoom old m → HaveRoom now m
+room-filled old now [] after s m each all order h room place w below =
     let count = h.count in
     absurd (omega arith)
-room-filled old now (e ∷ before) after m each h room lane w below =
+room-filled old now (e ∷ before) after s m each all order h room place w below =
     let count = h.count in
-    let same = (h.each lane w e (omega arith)).same_room in
-    let long = room lane w (omega arith) in
+    let inside = lane-for-below s place (omega arith) in
+    let at : route_of s (lane_for s place) ≡ place = order-found s place order (omega arith) in
+    let same : (get_or now place w).room ≡ (get_or old place w).room =
+    subst (λ (k : ℕ). (get_or now k w).room ≡ (get_or old k w).room) at
+    (h.each (lane_for s place) w e (omega arith)).same_room in
+    let long = room place w (omega arith) in
     omega arith
 
 -- ---- how many cells there are
@@ -143,33 +151,47 @@ empty-has-room waits n m is lane w below =
 
 -- where no cell waits and there is room for those of m ticks, all those of n ticks are taken
 pub filled-waiting : (old now : List Waits) (before after : List CellEnd) (s : Plan) (from n m : ℕ)
-    → length old ≡ length before → AreFilled old now before after → HaveWaiting old s from 0
+    → length old ≡ length before → length before ≡ s.link.params.l
+    → is_order s.link.params.l s.route ≡ true
+    → AreFilled old now before after s.route → HaveWaiting old s from 0
     → HaveRoom old m → n ≤ m → HaveCells before s from n → HaveWaiting now s from n
-filled-waiting old now [] after s from n m same f none room low cells lane w below =
+filled-waiting old now [] after s from n m same all order f none room low cells place w below =
     let count = f.count in
     absurd (omega arith)
-filled-waiting old now (e ∷ before) after s from n m same f none room low cells lane w below =
+filled-waiting old now (e ∷ before) after s from n m same all order f none room low cells place w below =
     let count = f.count in
-    (filled-one (get_or old lane w) (get_or now lane w) (get_or (e ∷ before) lane e)
-    (get_or after lane e) s from n m lane (f.each lane w e (omega arith))
-    (waits-nothing old s from none lane w (omega arith)) (room lane w (omega arith)) low
+    let lane : ℕ = lane_for s place in
+    let inside : lane < s.link.params.l = lane-for-below s place (omega arith) in
+    let at : route_of s lane ≡ place = order-found s place order (omega arith) in
+    let filled : IsFilled (get_or old place w) (get_or now place w) (get_or (e ∷ before) lane e)
+    (get_or after lane e) =
+    subst (λ (k : ℕ). IsFilled (get_or old k w) (get_or now k w) (get_or (e ∷ before) lane e)
+    (get_or after lane e)) at (f.each lane w e (omega arith)) in
+    (filled-one (get_or old place w) (get_or now place w) (get_or (e ∷ before) lane e)
+    (get_or after lane e) s from n m lane filled
+    (waits-nothing old s from none place w (omega arith)) (room place w (omega arith)) low
     (cells lane e (omega arith))).0
 
 pub filled-cells : (old now : List Waits) (before after : List CellEnd) (s : Plan) (from n m : ℕ)
-    → length old ≡ length before → AreFilled old now before after → HaveWaiting old s from 0
+    → length old ≡ length before → length before ≡ s.link.params.l
+    → is_order s.link.params.l s.route ≡ true
+    → AreFilled old now before after s.route → HaveWaiting old s from 0
     → HaveRoom old m → n ≤ m → HaveCells before s from n → HaveCells after s (from + n) 0
-filled-cells old now before after s from n m same f none room low cells lane e below =
+filled-cells old now before after s from n m same all order f none room low cells lane e below =
     let count = f.count in
     let ends = f.end_count in
-    (filled-one (get_or old lane no_waits) (get_or now lane no_waits) (get_or before lane e)
+    let place : ℕ = route_of s lane in
+    let inside : place < s.link.params.l =
+    order-below s.link.params.l s.route lane (omega arith) order in
+    (filled-one (get_or old place no_waits) (get_or now place no_waits) (get_or before lane e)
     (get_or after lane e) s from n m lane (f.each lane no_waits e (omega arith))
-    (waits-nothing old s from none lane no_waits (omega arith))
-    (room lane no_waits (omega arith)) low (cells lane e (omega arith))).1
+    (waits-nothing old s from none place no_waits (omega arith))
+    (room place no_waits (omega arith)) low (cells lane e (omega arith))).1
 
 -- the lanes and the ends stay pairs
 pub filled-pairs : (lanes : List LanePair) (old now : List Waits) (before after : List CellEnd)
-    → AreFilled old now before after → ArePairs lanes before → ArePairs lanes after
-filled-pairs lanes old now before after f pairs = record {
+    (route : List ℕ) → AreFilled old now before after route → ArePairs lanes before → ArePairs lanes after
+filled-pairs lanes old now before after route f pairs = record {
   count = f.end_count ∙ pairs.count;
   each = λ lane d e below.
       let count = pairs.count in
@@ -181,15 +203,18 @@ filled-pairs lanes old now before after f pairs = record {
 -- what was collected stays so, where cells are taken from the ends
 pub filled-collected : (old now : Collecting) (s : Plan) (t : ℕ)
     → now ≡ record old { ends = now.ends; waiting = now.waiting }
-    → AreFilled old.waiting now.waiting old.ends now.ends → HasCollected old s t
-    → HasCollected now s t
+    → AreFilled old.waiting now.waiting old.ends now.ends s.route
+    → HasCollected old s t → HasCollected now s t
 filled-collected old now s t is f h =
     let m = period s.link.params in
     let same : length old.waiting ≡ length old.ends = h.wait_count ∙ sym h.end_count in
     let stays : HasCollected (record old { ends = now.ends; waiting = now.waiting }) s t = record {
       end_count = f.end_count ∙ h.end_count;
       wait_count = f.count ∙ h.wait_count;
-      room = room-filled old.waiting now.waiting old.ends now.ends m same f h.room;
+      route_is = h.route_is;
+      order = h.order;
+      room = room-filled old.waiting now.waiting old.ends now.ends s m same h.end_count h.order
+          f h.room;
       lead_is = h.lead_is;
       ahead_is = h.ahead_is;
       gathered = h.gathered;

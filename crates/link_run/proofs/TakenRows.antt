@@ -12,9 +12,9 @@ use Rattle.link_run.specs.kept.Lines.{HasAll, HasPrefix, HasTaken, TookLines, Wr
 
 -- a row more is its line more
 pub lines-more : (s : Plan) (rows : List Printed) (x : Printed)
-    → lines s (rows ++ x ∷ []) ≡ lines s rows ++ line_of s.link x.row x.words
+    → lines s (rows ++ x ∷ []) ≡ lines s rows ++ line_of s.version s.link x.row x.words
 unfolding lines
-lines-more s rows x = sym (flat_map_more (λ y. line_of s.link y.row y.words) [] rows x)
+lines-more s rows x = sym (flat_map_more (λ y. line_of s.version s.link y.row y.words) [] rows x)
 
 -- a prefix is one of a longer list
 pub prefix-longer : (n : ℕ) (xs ys : List ℕ) → (k : ℕ) × (take n xs ≡ take k (xs ++ ys))
@@ -97,7 +97,7 @@ took-failed first now rows x bad h = record {
   faults = h.faults;
   took = λ s is fine.
       let due = lines s rows in
-      let line = line_of s.link x.row x.words in
+      let line = line_of s.version s.link x.row x.words in
       prefix-taken first now (lines s (rows ++ x ∷ [])) bad
       (subst (HasPrefix first now) (sym (lines-more s rows x))
       (failed-more first now due line (taken-prefix first now due bad (h.took s is fine))));
@@ -158,14 +158,14 @@ pub took-gathered : (first old now : Writing) (rows : List Printed) (x : Printed
     → now.scenario ≡ old.scenario → now.written ≡ old.written → old.failed ≡ false
     → now.failed ≡ false → now.faults ≡ old.faults
     → ((s : Plan) → plan_of old.scenario ≡ Some s
-    → now.bytes ≡ old.bytes ++ line_of s.link x.row x.words)
+    → now.bytes ≡ old.bytes ++ line_of s.version s.link x.row x.words)
     → TookLines first old rows → TookLines first now (rows ++ x ∷ [])
 took-gathered first old now rows x same written fine still count more h = record {
   same = same ∙ h.same;
   faults = (let before = h.faults in omega arith);
   took = λ s is start.
       let had = taken-all first old (lines s rows) fine (h.took s is start) in
-      let line = line_of s.link x.row x.words in
+      let line = line_of s.version s.link x.row x.words in
       let e = more s (ap plan_of h.same ∙ is) in
       all-taken first now (lines s (rows ++ x ∷ [])) still (record {
         text = had.text;

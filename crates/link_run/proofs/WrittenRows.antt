@@ -22,7 +22,7 @@ use Rattle.link_run.proofs.TakenRows.{added-as, prefix-longer, rose-before, rose
 
 lines-append : (s : Plan) (xs ys : List Printed) → lines s (xs ++ ys) ≡ lines s xs ++ lines s ys
 unfolding lines
-lines-append s xs ys = flat_map-append (λ y. line_of s.link y.row y.words) xs ys
+lines-append s xs ys = flat_map-append (λ y. line_of s.version s.link y.row y.words) xs ys
 
 prefix-of-lines : (s : Plan) (rows : List Printed) (n k : ℕ)
     → (m : ℕ) × (take k (lines s (take n rows)) ≡ take m (lines s rows))
@@ -201,6 +201,7 @@ pub record HasPlan (s : Scenario) : Type 0 where
 pub has-plan : (s : Scenario) (k : Link) → s.link ≡ Some k → HasPlan s
 has-plan s k is = record {
   plan = record {
+    version = s.version;
     link = k;
     ticks = s.ticks;
     print = s.print;
@@ -208,6 +209,9 @@ has-plan s k is = record {
     events = s.events.items;
     jitters = s.jitters.items;
     flips = s.flips.items;
+    wire = s.wire.items;
+    route = s.route.items;
+    inverted = s.inverted.items;
   };
   is = ap (λ (o : Option Link). plan_with o s) is;
 }

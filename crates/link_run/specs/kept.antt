@@ -11,6 +11,7 @@ pub mod Happened
 pub mod LaneRuns
 pub mod Lines
 pub mod LinkStates
+pub mod Opened
 pub mod Printing
 pub mod ReceiverRuns
 pub mod Reported

@@ -1,9 +1,10 @@
 //! The cells of the lanes, joined to frames.
-ghost use Rattle.std.specs.Prelude.{◌≡◌, ◌+◌, [], ℕ, suc, Option, length, if◌then◌else◌, IfOk};
+ghost use Rattle.std.specs.Prelude.{◌≡◌, ◌+◌, [], ℕ, suc, Option, Some, length, if◌then◌else◌, IfOk, IsTrue};
 ghost use Rattle.link_params.specs.declared.fields.Params.{Params as ParamsValue};
 ghost use Rattle.link_model.specs.kept.LaneRuns.{LaneRun};
 ghost use Rattle.bring_up.specs.Decisions.{is_running};
-ghost use Rattle.scenario.specs.Plans.{Plan};
+ghost use Rattle.scenario.specs.Limits.{is_order};
+ghost use Rattle.scenario.specs.Plans.{Plan, plan_of};
 ghost use Rattle.link_model.specs.Kinds.{moment_of, run_of};
 ghost use Rattle.link_model.specs.kept.Before.{Columns};
 ghost use Rattle.link_run.specs.kept.Collected.{CanCollect, Collects, HasCollected, IsLegalLink, lead_of};
@@ -19,14 +20,16 @@ use crate::waiting::Waiting;
 use jesd_base::NoMemory;
 use lane_threads::{CellEnd, Side};
 use link_params::{Link, Mode, Shape};
+use scenario::Scenario;
 use std::alloc::Global;
 use std::marker::Model;
 
-/// The ends of the lanes' rings, the cells that were taken from them, and the frame that is
-/// gathered from these.
+/// The ends of the lanes' rings, the place of each lane in the frame, the cells that were taken from
+/// the ends, in the order of the places, and the frame that is gathered from these.
 #[derive(Drop)]
 pub struct Collector {
     ends: Vec<CellEnd>,
+    route: Vec<u32>,
     waiting: Vec<Waiting>,
     // The entries of a session that are places of the alignment sequence, and those that are still
     // to come.
@@ -36,35 +39,50 @@ pub struct Collector {
 }
 
 impl Model for Collector {
-    ghost use Rattle.std.specs.Prelude.{◌≡◌, ◌≤◌, length};
+    ghost use Rattle.std.specs.Prelude.{◌≡◌, ◌≤◌, length, IsTrue};
+    ghost use Rattle.scenario.specs.Limits.{is_order};
     ghost use Rattle.link_run.specs.kept.Collected.{Collecting};
 
     ghost Value = { Collecting };
 
     ghost view = { λ c. record {
       ends = c.ends.items;
+      route = c.route.items;
       waiting = c.waiting.items;
       lead = c.lead;
       ahead = c.ahead;
       gathering = c.deframer;
     } };
 
-    ghost invariant = { λ c. (length c.waiting.items ≡ length c.ends.items) × (c.ahead ≤ c.lead) };
+    ghost invariant = { λ c. (length c.waiting.items ≡ length c.ends.items) × (c.ahead ≤ c.lead)
+        × IsTrue (is_order (length c.ends.items) c.route.items) };
 }
 
 impl Collector {
-    /// A collector at these ends, of which nothing was taken. All its memory is taken here;
-    /// `NoMemory` where there is none.
-    pub fn open(alloc: Global, link: &Link, ends: Vec<CellEnd>) -> Result<Collector, NoMemory>
+    /// A collector at these ends of the lanes of a scenario with this link, of which nothing was
+    /// taken. All its memory is taken here; `NoMemory` where there is none.
+    pub fn open(
+        alloc: Global,
+        s: &Scenario,
+        link: &Link,
+        ends: Vec<CellEnd>,
+    ) -> Result<Collector, NoMemory>
+        requires link { s.now.link ≡ Some link.now }
         requires ends { length ends.items ≡ link.now.params.l }
-        ensures begins { (s : Plan) → s.link ≡ link.now → IfOk result (λ c. HasCollected c s 0) }
+        ensures begins { (plan : Plan) → plan_of s.now ≡ Some plan
+            → IfOk result (λ c. HasCollected c plan 0) }
         ensures ends { IfOk result (λ c. c.ends ≡ ends.items) }
-        ensures empty { (s : Plan) (t : ℕ) → IfOk result (λ c. HaveWaiting c.waiting s t 0) }
+        ensures empty { (plan : Plan) (t : ℕ) → IfOk result (λ c. HaveWaiting c.waiting plan t 0) }
     {
         let shape = link.shape();
         let lead = lead_of(link);
+        let mut route = Vec::new(alloc);
+        if route.extend_from_slice(s.route.as_slice()).is_err() {
+            return Err(NoMemory);
+        }
         Ok(Collector {
             ends,
+            route,
             waiting: open_waiting(alloc, &shape)?,
             lead,
             ahead: lead,
@@ -144,20 +162,23 @@ impl Collector {
 
 impl Side for Collector {
     ghost runs = { λ a b. (b ≡ record a { ends = b.ends; waiting = b.waiting })
-        × AreFilled a.waiting b.waiting a.ends b.ends };
+        × AreFilled a.waiting b.waiting a.ends b.ends a.route };
 
     fn run(&mut self) {
-        fill_each(self.waiting.as_mut_slice(), self.ends.as_mut_slice());
+        let (waiting, ends) = (self.waiting.as_mut_slice(), self.ends.as_mut_slice());
+        fill_each(waiting, ends, self.route.as_slice());
     }
 }
 
-// Takes the cells that are known to be at the end of each lane's ring.
-fn fill_each(waiting: &mut [Waiting], ends: &mut [CellEnd])
+// Takes the cells that are known to be at the end of each lane's ring; they wait at the place of the
+// lane in the frame.
+fn fill_each(waiting: &mut [Waiting], ends: &mut [CellEnd], route: &[u32])
     requires count { length waiting.old ≡ length ends.old }
-    ensures { AreFilled waiting.old waiting.new ends.old ends.new }
+    requires order { IsTrue (is_order (length ends.old) route.now) }
+    ensures { AreFilled waiting.old waiting.new ends.old ends.new route.now }
 {
     for (lane, end) in ends.iter_mut().enumerate() {
-        waiting[lane].fill(end);
+        waiting[route[lane] as usize].fill(end);
     }
 }
 

@@ -11,7 +11,7 @@ ghost use Rattle.link_model.specs.Carried.{dead_after, delay_after};
 ghost use Rattle.link_model.specs.Edges.{is_reset, resets};
 ghost use Rattle.link_run.specs.kept.LaneRuns.{AreAt, HaveRunLanes, KeepRings};
 ghost use Rattle.link_model.specs.kept.LaneRuns.{LaneRun};
-ghost use Rattle.link_run.specs.kept.Happened.{AreAsBefore, are_past, as_of};
+ghost use Rattle.link_run.specs.kept.Happened.{AreAsBefore, HaveReach, are_past, as_of};
 
 use crate::happened::Happened;
 use crate::lanes::Lanes;
@@ -96,7 +96,7 @@ fn is_reset_of(what: What, device: Device) -> bool
 // Does to the lanes what these events say, one after the other.
 fn apply_all(lanes: &mut Lanes, events: &[Event])
     requires ran { (s : Plan) × (runs : ℕ → LaneRun) × HaveRunLanes lanes.old s runs
-        × All (λ (e : EventValue). IsTrue (what_fits s.link.params e.what)) events.now }
+        × HaveReach s runs × All (λ (e : EventValue). IsTrue (what_fits s.link.params e.what)) events.now }
     ensures goes_on { (s : Plan) (runs : ℕ → LaneRun) → HaveRunLanes lanes.old s runs
         → HaveRunLanes lanes.new s (λ lane. record (runs lane) {
           delay = fold (λ d (e : EventValue). delay_after lane d e.what) (runs lane).delay events.now;
@@ -115,7 +115,7 @@ fn apply_all(lanes: &mut Lanes, events: &[Event])
 // Does to the lanes what one event says.
 fn apply(lanes: &mut Lanes, what: What)
     requires ran { (s : Plan) × (runs : ℕ → LaneRun) × HaveRunLanes lanes.old s runs
-        × IsTrue (what_fits s.link.params what) }
+        × HaveReach s runs × IsTrue (what_fits s.link.params what) }
     ensures goes_on { (s : Plan) (runs : ℕ → LaneRun) → HaveRunLanes lanes.old s runs
         → HaveRunLanes lanes.new s (λ lane. record (runs lane) {
           delay = delay_after lane (runs lane).delay what;

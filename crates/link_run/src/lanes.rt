@@ -1,17 +1,19 @@
 //! The lanes of a run.
-ghost use Rattle.std.specs.Prelude.{◌≡◌, ◌≤◌, ◌<◌, ◌+◌, ℕ, suc, [], length, get_or, slice_index, map, fold, max, true, Option, None, All, IfOk, IsTrue};
+ghost use Rattle.std.specs.Prelude.{◌≡◌, ◌≤◌, ◌<◌, ◌+◌, ℕ, suc, [], length, get_or, slice_index, map, fold, max, true, Option, None, Some, All, IfOk};
 ghost use Rattle.link_params.specs.declared.fields.Params.{Params as ParamsValue};
 ghost use Rattle.link_params.specs.Laws.{is_b};
 ghost use Rattle.link_params.specs.Numbers.{period};
 ghost use Rattle.bring_up.specs.Decisions.{is_running};
-ghost use Rattle.scenario.specs.Limits.{flip_fits};
-ghost use Rattle.scenario.specs.Plans.{Plan, numbers_from};
+ghost use Rattle.scenario.specs.Plans.{Plan, numbers_from, plan_of};
 ghost use Rattle.link_model.specs.Kinds.{kind_of, moment_of, run_of};
+ghost use Rattle.link_model.specs.Wiring.{has_inverted_polarity, route_of};
 ghost use Rattle.link_model.specs.kept.LaneRuns.{LaneRun, lane_run, lane_stepped, no_run};
 ghost use Rattle.lane_threads.specs.declared.lane_pair.LanePair.{LanePair as PairValue};
+ghost use Rattle.lane_threads.specs.Segments.{IsOnePair};
 ghost use Rattle.lane_threads.specs.kept.LaneEnds.{params_in};
 ghost use Rattle.link_run.specs.kept.Ends.{ArePairs, HaveCells};
 ghost use Rattle.link_run.specs.kept.LaneRuns.{AreAt, AreOnRings, ArePut, AreSameLanes, HaveRings, HaveRunLanes, HaveWidths, KeepRings, with_lane};
+ghost use Rattle.link_run.specs.kept.Opened.{IsOpened, IsOpenedEnd};
 ghost use Rattle.link_run.specs.kept.Segments.{CanCarry, CanGive, IsCarried};
 
 use crate::flips::inverted_bits;
@@ -19,7 +21,7 @@ use crate::segment::Segment;
 use jesd_base::NoMemory;
 use lane_threads::{CellEnd, Gate, LanePair, Side, meet, open_line, run_segment};
 use link_params::{LaneReport, Link};
-use scenario::Flip;
+use scenario::Scenario;
 use std::alloc::Global;
 use std::marker::Model;
 use std::thread::Threads;
@@ -42,19 +44,14 @@ impl Model for Lanes {
 }
 
 impl Lanes {
-    /// The lanes before the first tick of a run of so many ticks, and the other ends of their
-    /// rings. All their memory is taken here; `NoMemory` where there is none.
-    pub fn open(
-        alloc: Global,
-        link: &Link,
-        flips: &[Flip],
-        ticks: u32,
-    ) -> Result<(Lanes, Vec<CellEnd>), NoMemory>
-        requires some { 0 < ticks }
-        requires ticks { ticks ≤ 1048576 }
-        requires flips { All (λ f. IsTrue (flip_fits link.now.params ticks f)) flips.now }
-        ensures begins { (s : Plan) → s.link ≡ link.now → s.flips ≡ flips.now → s.ticks ≡ ticks
-            → IfOk result (λ r. HaveRunLanes r.0 s (λ lane. no_run s) × HaveRings r.0 s 0 0) }
+    /// The lanes of a scenario with this link before the first tick, each with the transmitter lane
+    /// to which it is wired, and the other ends of their rings. All their memory is taken here;
+    /// `NoMemory` where there is none.
+    pub fn open(alloc: Global, s: &Scenario, link: &Link) -> Result<(Lanes, Vec<CellEnd>), NoMemory>
+        requires link { s.now.link ≡ Some link.now }
+        ensures begins { (plan : Plan) → plan_of s.now ≡ Some plan
+            → IfOk result (λ r. HaveRunLanes r.0 plan (λ lane. record (no_run plan) { inverted = has_inverted_polarity plan lane })
+            × HaveRings r.0 plan 0 0) }
         ensures ends { (s : Plan) → IfOk result (λ r. HaveCells r.1.items s 0 0) }
         ensures pairs { IfOk result (λ r. ArePairs r.0 r.1.items) }
         ensures at { IfOk result (λ r. AreAt r.0 link.now.params None) }
@@ -63,8 +60,7 @@ impl Lanes {
         let mut pairs = Vec::new(alloc);
         let mut ends = Vec::new(alloc);
         for lane in 0..link.shape().lanes() {
-            let line = open_line(alloc, link, inverted_bits(alloc, flips, lane)?)?;
-            let (pair, end) = LanePair::open(alloc, link, lane, line, ticks)?;
+            let (pair, end) = open_pair(alloc, s, link, lane)?;
             if pairs.push(pair).is_err() || ends.push(end).is_err() {
                 return Err(NoMemory);
             }
@@ -79,21 +75,24 @@ impl Lanes {
         self.pairs.as_slice()
     }
 
-    /// What each lane is handed in tick `i` of the next segment, lane 0's first: the octets of the
-    /// tick as one number, the first one most significant.
-    pub fn put(&mut self, i: u32, handed: &[u64])
-        requires lanes { length self.old ≤ length handed.now }
+    /// What each transmitter lane is handed in tick `i` of the next segment, lane 0's first: the
+    /// octets of the tick as one number, the first one most significant. `wire` is the transmitter
+    /// lane to which each receiver lane is wired.
+    pub fn put(&mut self, wire: &[u32], i: u32, handed: &[u64])
+        requires lanes { length self.old ≤ length wire.now }
+        requires wired { (lane : ℕ) → lane < length self.old
+            → slice_index wire.now lane < length handed.now }
         requires inside { (lane : ℕ) (d : PairValue) → lane < length self.old
             → i < period (params_in (get_or self.old lane d).lane.tx) }
         requires widths { HaveWidths self.old }
         requires small { (lane : ℕ) (d : PairValue) → lane < length self.old
             → is_b (params_in (get_or self.old lane d).lane.tx).mode ≡ true
-            → slice_index handed.now lane < 256 }
-        ensures put { ArePut self.old self.new i handed.now }
+            → slice_index handed.now (slice_index wire.now lane) < 256 }
+        ensures put { ArePut self.old self.new wire.now i handed.now }
         ensures same { AreSameLanes self.old self.new }
     {
         for (lane, pair) in self.pairs.iter_mut().enumerate() {
-            pair.put(i, handed[lane]);
+            pair.put(i, handed[wire[lane] as usize]);
         }
     }
 
@@ -131,7 +130,7 @@ impl Lanes {
     pub fn report(&self, reports: &mut [LaneReport])
         requires { length reports.old ≡ length self.now }
         ensures { (s : Plan) (runs : ℕ → LaneRun) → HaveRunLanes self.now s runs
-            → reports.new ≡ map (λ lane. (kind_of s.link.params).report s.link.params s.link.timing lane (runs lane).taken) (numbers_from 0 s.link.params.l) }
+            → reports.new ≡ map (λ lane. (kind_of s.link.params).report s.link.params s.link.timing (route_of s lane) (runs lane).taken) (numbers_from 0 s.link.params.l) }
     {
         for lane in 0..self.pairs.as_slice().len() {
             reports[lane] = self.pairs[lane].report();
@@ -215,7 +214,7 @@ impl Lanes {
 
     /// From this tick on a lane is dead, or alive.
     pub fn set_dead(&mut self, lane: u32, dead: bool)
-        requires { lane < length self.old }
+        requires lane { lane < length self.old }
         ensures goes_on { (s : Plan) (runs : ℕ → LaneRun) → HaveRunLanes self.old s runs
             → HaveRunLanes self.new s (with_lane runs lane (record (runs lane) { dead = dead })) }
         ensures at { (p : ParamsValue) (next : Option ℕ) → AreAt self.old p next
@@ -225,4 +224,27 @@ impl Lanes {
     {
         self.pairs[lane as usize].set_dead(dead);
     }
+}
+
+// A lane of a scenario before the first tick, with the transmitter lane to which it is wired, and the
+// other end of its ring.
+fn open_pair(
+    alloc: Global,
+    s: &Scenario,
+    link: &Link,
+    lane: u32,
+) -> Result<(LanePair, CellEnd), NoMemory>
+    requires link { s.now.link ≡ Some link.now }
+    requires lane { lane < link.now.params.l }
+    ensures opened { IfOk result (λ r. IsOpened s.now link.now lane r.0) }
+    ensures end { IfOk result (λ r. IsOpenedEnd r.1) }
+    ensures pair { IfOk result (λ r. IsOnePair r.0 r.1) }
+{
+    let flips = inverted_bits(alloc, s.flips.as_slice(), lane)?;
+    let line = open_line(alloc, link, flips)?;
+    let at = lane as usize;
+    let opened = LanePair::open(alloc, link, s.wire[at], s.route[at], line, s.ticks)?;
+    let (mut pair, end) = opened;
+    pair.set_inverted(s.inverted[at]);
+    Ok((pair, end))
 }

@@ -70,7 +70,7 @@ impl LinkState {
             → IfOk result (λ l. HasRun l plan 0 0) }
         ensures same { IfOk result (λ l. l.link ≡ link.now) }
     {
-        let (lanes, ends) = Lanes::open(alloc, link, s.flips.as_slice(), s.ticks)?;
+        let (lanes, ends) = Lanes::open(alloc, s, link)?;
         let period = link.shape().period();
         Ok(LinkState {
             link: *link,
@@ -78,7 +78,7 @@ impl LinkState {
             lanes,
             latest: open_segment(alloc, period)?,
             last: open_segment(alloc, period)?,
-            collector: Collector::open(alloc, link, ends)?,
+            collector: Collector::open(alloc, s, link, ends)?,
             no_alarms: AlarmRow::new(),
         })
     }

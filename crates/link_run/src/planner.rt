@@ -161,7 +161,7 @@ impl Planner {
             × (tx_reset ≡ is_reset plan TxDevice t) × (rx_reset ≡ is_reset plan RxDevice t) }
         ensures planned { (plan : Plan) → plan_of s.now ≡ Some plan
             → HasPlannedTick segment.old segment.new self.old self.new tx_reset plan t }
-        ensures octets { ArePut lanes.old lanes.new (length segment.old.steps) self.new.tx.handed }
+        ensures octets { ArePut lanes.old lanes.new s.now.wire.items (length segment.old.steps) self.new.tx.handed }
         ensures lanes { AreSameLanes lanes.old lanes.new }
         ensures room { (segment.new.room ≡ segment.old.room) × (segment.new.gives ≡ segment.old.gives)
             × (segment.new.rx_reset ≡ segment.old.rx_reset) }
@@ -169,7 +169,8 @@ impl Planner {
     {
         let sent = self.tx.tick(s, &self.link, t, tx_reset);
         let told = self.rx.tell(s, &self.link, t, rx_reset);
-        lanes.put(segment.len() as u32, self.tx.handed());
+        let wire = s.wire.as_slice();
+        lanes.put(wire, segment.len() as u32, self.tx.handed());
         let step = Step {
             tx: sent.order,
             rx: told.told,

@@ -20,6 +20,7 @@ fn alarm_fits(alarm: &Alarm)
         Alarm::NoLock { lane } => fit(*lane, 0),
         Alarm::IlasFault { lane, place } => fit(*lane, *place),
         Alarm::ConfigMismatch { lane, octet } => fit(*lane, *octet),
+        Alarm::LaneId { lane, lid } => fit(*lane, *lid),
         Alarm::SysrefPhase { device: _, off } => fit(*off, 0),
         Alarm::StartTimeout => {}
     }

@@ -83,7 +83,7 @@ impl Lines {
         requires few { length words.now ≤ self.old.words }
         requires room { length self.old.bytes < 65536 }
         ensures bytes { (k : LinkValue) → s.now.link ≡ Some k
-            → self.new.bytes ≡ self.old.bytes ++ line_of k row.now words.now }
+            → self.new.bytes ≡ self.old.bytes ++ line_of s.now.version k row.now words.now }
         ensures words { self.new.words ≡ self.old.words }
     {
         let Some(link) = &s.link else { unreachable!() };

@@ -1,11 +1,13 @@
 -- The plan of a number is a legal one.
-use Rattle.std.proofs.Common.{◌≡◌, ◌<◌, ℕ, ◌+◌, ◌/◌, None, arith}
+use Rattle.std.proofs.Common.{◌≡◌, ◌<◌, ℕ, ◌+◌, ◌/◌, false, None, arith}
+use Rattle.std.proofs.lemmas.List.{length-replicate}
 use Rattle.link_params.specs.Laws.{broken_law}
 use Rattle.link_params.specs.Numbers.{period}
 use Rattle.link_params.specs.TimingLaws.{broken_timing}
 use Rattle.scenario.specs.Generated.{draw, drawn_params, drawn_timing, generated, lateness, latest, mode_of_draw}
 use Rattle.scenario.specs.laws.ReadingLaws.{GeneratesLegalPlans}
 use Rattle.scenario.proofs.FitLemmas.{draw-below, events-fit, small}
+use Rattle.scenario.proofs.LaneOrders.{order-numbers}
 use Rattle.scenario.proofs.LegalLemmas.{legal, timely}
 use Rattle.scenario.proofs.ReadingLaws.{frame-below, frame-size}
 
@@ -40,6 +42,9 @@ generates-legal-plans number =
       events = fit.events_fit;
       jitters = fit.jitters_fit;
       flips = fit.flips_fit;
+      wire = order-numbers (drawn_params number).l;
+      route = order-numbers (drawn_params number).l;
+      inverted = length-replicate (drawn_params number).l false;
       size = frame-size (generated number);
       words = λ n r. frame-below (generated number) n r tt;
     }

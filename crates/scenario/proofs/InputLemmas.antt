@@ -71,7 +71,8 @@ given p None (w ∷ words) (input.Frames v) legal e is =
       some = le-leb 1 (length v.items) (rw same (omega arith));
     }
 
--- what is to be mapped or unmapped: whole frames, whole octets, and no events, jitters and flips
+-- what is to be mapped or unmapped: whole frames, whole octets, and no events, jitters, flips and
+-- lanes
 pub mapped-sound : (seen : Seen) (p : Params) → (seen.stage ≡ stage.Frames p)
     ⊎ (seen.stage ≡ stage.Octets p) → IsSound seen
     → AreFrames p seen.words × AreOctets p seen.octets × HasNone seen

@@ -4,6 +4,7 @@ pub mod ReadLemmas
 pub mod CheckLemmas
 pub mod RowLemmas
 pub mod FlipLemmas
+pub mod LaneOrders
 pub mod OrderLemmas
 pub mod InputLemmas
 pub mod ScenarioLemmas

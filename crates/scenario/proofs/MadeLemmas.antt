@@ -1,5 +1,5 @@
 -- What the calls of a scenario from a number give together.
-use Rattle.std.proofs.Common.{◌≡◌, ◌∙◌, ℕ, ◌+◌, ◌*◌, List, [], ◌∷◌, ◌++◌, map, refl, sym, ap, ap₂, arith}
+use Rattle.std.proofs.Common.{◌≡◌, ◌∙◌, ℕ, ◌+◌, ◌*◌, List, [], ◌∷◌, ◌++◌, map, replicate, false, refl, sym, ap, ap₂, arith}
 use Rattle.link_params.specs.declared.fields.Params.{Params}
 use Rattle.link_params.specs.declared.fields.Timing.{Timing}
 use Rattle.link_params.specs.Links.{Link}
@@ -24,6 +24,7 @@ pub record AreDrawn (number : ℕ) (p : Params) (k : Link) (es : List Event) (js
 pub plan-is : (number : ℕ) (p : Params) (k : Link) (es : List Event) (js : List Jitter)
     (fs : List Flip) → AreDrawn number p k es js fs
     → record {
+      version = 1;
       link = k;
       ticks = 16384;
       print = print.None;
@@ -31,6 +32,9 @@ pub plan-is : (number : ℕ) (p : Params) (k : Link) (es : List Event) (js : Lis
       events = es;
       jitters = js;
       flips = fs;
+      wire = numbers_from 0 p.l;
+      route = numbers_from 0 p.l;
+      inverted = replicate p.l false;
     } ≡ generated number
 unfolding generated
 plan-is number p k es js fs is = rw (is.events, is.jitters, is.flips, is.link, is.shape) refl

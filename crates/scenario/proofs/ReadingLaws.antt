@@ -25,10 +25,11 @@ use Rattle.scenario.specs.declared.stage.Stage.TheVariants as stage
 use Rattle.scenario.specs.Text.{Text}
 use Rattle.scenario.specs.Check.{fault, basic_fault, fault_of, or_fault}
 use Rattle.scenario.specs.Limits.{event_fits}
-use Rattle.scenario.specs.Plans.{Frames, Plan, Ramp, Source, events_in, in_order, numbers_from, plan_at, source_frame, source_of, source_word}
-use Rattle.scenario.specs.Reads.{Seen, add, misplaced, in_body, frame_checks, words_in_fields, ramp_checks, ramp_of, params_of, link_checks, link_law, timing_checks, timing_law, timing_of, of_kind, of_known, kind_of, field, version_read, version_fault, is_start, is_whole, step, ended, over, nothing, reads, rows_of, word_limit}
+use Rattle.scenario.specs.Plans.{Frames, Plan, Ramp, Source, events_in, in_order, lanes_or, numbers_from, plan_at, source_frame, source_of, source_word, inverted_lanes}
+use Rattle.scenario.specs.Reads.{Seen, add, misplaced, in_body, frame_checks, lanes_checks, lanes_in_fields, words_in_fields, ramp_checks, ramp_of, params_of, link_checks, link_law, timing_checks, timing_law, timing_of, of_kind, of_known, kind_of, field, version_read, version_fault, is_start, is_whole, step, ended, over, nothing, reads, rows_of, word_limit}
 use Rattle.scenario.specs.laws.ReadingLaws.{IsLegalPlan, ReadsLegalPlans, ReadsPlans}
 use Rattle.scenario.specs.kept.Sound.{AreSound, IsInput, IsSound}
+use Rattle.scenario.proofs.LaneOrders.{length-inverted, order-or}
 use Rattle.scenario.proofs.SoundLemmas.{fault-None, first-None, or_fault-Ok, step-sound}
 
 -- ---- the link obeys its laws where it is fixed
@@ -106,6 +107,21 @@ body-legal seen ts b kind.Reset next e is has = stays _ seen _ next (stage.Body 
 body-legal seen ts b kind.Dead next e is has = stays _ seen _ next (stage.Body b) e refl is has
 body-legal seen ts b kind.Jitter next e is has = stays _ seen _ next (stage.Body b) e refl is has
 body-legal seen ts b kind.Flip next e is has = stays _ seen _ next (stage.Body b) e refl is has
+body-legal seen ts b kind.Wire next e is has = elim (cases_Bool (length seen.wire == 0)) [
+  | inl y ↦
+      let added : add ts (lanes_checks b.link.params ts)
+      (record seen { wire = lanes_in_fields b.link.params ts }) ≡ Ok next = rw y at e in
+      stays _ seen _ next (stage.Body b) added refl is has
+  | inr n ↦ let bad : misplaced ≡ Ok next = rw n at e in cc bad
+]
+body-legal seen ts b kind.Route next e is has = elim (cases_Bool (length seen.route == 0)) [
+  | inl y ↦
+      let added : add ts (lanes_checks b.link.params ts)
+      (record seen { route = lanes_in_fields b.link.params ts }) ≡ Ok next = rw y at e in
+      stays _ seen _ next (stage.Body b) added refl is has
+  | inr n ↦ let bad : misplaced ≡ Ok next = rw n at e in cc bad
+]
+body-legal seen ts b kind.Polarity next e is has = stays _ seen _ next (stage.Body b) e refl is has
 body-legal seen ts b k next e is has = cc e
 
 after-link : (seen : Seen) (fields : List Text) (j : Job) (next : Seen)
@@ -211,7 +227,7 @@ planned : (bytes : List ℕ) (seen : Seen) → reads job.Run bytes ≡ Ok seen �
 unfolding reads
 planned bytes seen e =
     let w = rows-whole (rows_of bytes) 0 (Ok nothing) seen e
-    (tt, (refl, refl, (refl, refl, refl))) in
+    (tt, (refl, refl, (refl, refl, refl, refl, refl))) in
     whole-planned seen.stage seen refl w.legal w.sound w.whole
 
 pub reads-plans : ReadsPlans
@@ -291,7 +307,9 @@ plan-legal : (seen : Seen) (k : IsPlanned seen) (plan : Plan)
     → plan_at (stage.Body k.setup) seen ≡ Some plan → IsLegalPlan plan
 plan-legal seen k plan e =
     let b = k.setup in
+    let l : ℕ = b.link.params.l in
     let is : Plan = record {
+      version = seen.version;
       link = b.link;
       ticks = b.ticks;
       print = b.print;
@@ -299,9 +317,12 @@ plan-legal seen k plan e =
       events = in_order b.ticks seen.events;
       jitters = seen.jitters;
       flips = seen.flips;
+      wire = lanes_or l seen.wire;
+      route = lanes_or l seen.route;
+      inverted = inverted_lanes l seen.polarities;
     } in
     let same : is ≡ plan = cc e in
-    let (input, octets, ticks, events) = k.sound in
+    let (input, octets, ticks, events, lanes) = k.sound in
     let legal : IsLegalPlan is = record {
       laws = k.legal.of_params.laws;
       timing = k.legal.timing;
@@ -310,6 +331,9 @@ plan-legal seen k plan e =
       events = ordered-fit b.link.params b.ticks seen.events events.events_fit;
       jitters = events.jitters_fit;
       flips = events.flips_fit;
+      wire = order-or l seen.wire lanes.wire_lanes;
+      route = order-or l seen.route lanes.route_lanes;
+      inverted = length-inverted l seen.polarities;
       size = frame-size is;
       words = λ n r. frame-below is n r (source-below b.link.params b.ramp seen.words input);
     } in

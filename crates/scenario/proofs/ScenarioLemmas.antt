@@ -26,7 +26,7 @@ pub came-none : (j : Job) (seen : Seen) → seen ≡ nothing → Came j [] 0 see
 came-none j seen e = record {
   goes_on = λ more. ap (λ s. over j 0 (Ok s) more) (sym e);
   sound =
-      rw e (refl, refl, (refl, refl, refl));
+      rw e (refl, refl, (refl, refl, refl, refl, refl));
 }
 
 -- one record after those

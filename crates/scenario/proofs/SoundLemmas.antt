@@ -21,10 +21,11 @@ use Rattle.scenario.specs.declared.stage.Stage.{Stage}
 use Rattle.scenario.specs.declared.stage.Stage.TheVariants as stage
 use Rattle.scenario.specs.Text.{Text, hex_octets, is_hex}
 use Rattle.scenario.specs.Check.{first, fault, lowest, unless, Checks, fault_of, or_fault}
-use Rattle.scenario.specs.Reads.{Seen, num, misplaced, room_for_event, events_so_far, with_event, in_body, add, run_checks, print_or_none, is_small_run, ramp_checks, ramp_of, delay_checks, delay_of, dead_checks, dead_of, reset_checks, reset_of, jitter_checks, jitter_of, flipped, flip_checks, flip_of, word_or_0, words_in_fields, word_limit, is_octets, all_octets, frame_checks, octets_checks, params_of, after_link, of_kind, of_known, kind_of, field, version_read, version_fault, is_start, step}
-use Rattle.scenario.specs.Limits.{event_fits, flip_fits, jitter_fits}
-use Rattle.scenario.specs.kept.Sound.{AreEvents, AreFrames, AreOctets, AreSound, AreTicks, HasNone, IsInput, IsSound}
+use Rattle.scenario.specs.Reads.{Seen, num, misplaced, room_for_event, events_so_far, with_event, in_body, add, run_checks, print_or_none, is_small_run, ramp_checks, ramp_of, delay_checks, delay_of, dead_checks, dead_of, reset_checks, reset_of, jitter_checks, jitter_of, flipped, flip_checks, flip_of, lanes_checks, lanes_in_fields, polarity_of, word_or_0, words_in_fields, word_limit, is_octets, all_octets, frame_checks, octets_checks, params_of, after_link, of_kind, of_known, kind_of, field, version_read, version_fault, is_start, step}
+use Rattle.scenario.specs.Limits.{event_fits, flip_fits, is_order, jitter_fits}
+use Rattle.scenario.specs.kept.Sound.{AreEvents, AreFrames, AreLanes, AreOctets, AreSound, AreTicks, HasNone, IsInput, IsSound}
 use Rattle.scenario.proofs.FlipLemmas.{flipped-more}
+use Rattle.scenario.proofs.LaneOrders.{length-fields, order-of-lanes}
 
 -- what is known of a value that was read
 pub or_fault-Ok : (o : Option Fault) (x y : Seen) → or_fault o x ≡ Ok y → (o ≡ None) × (x ≡ y)
@@ -159,7 +160,7 @@ at-stage s t seen e sound = rw e sound
 -- ---- a run
 no-events : (p : Params) (ticks : ℕ) (seen : Seen) → HasNone seen
     → AreEvents p ticks seen.events seen.jitters seen.flips
-no-events p ticks seen (events, jitters, flips) = record {
+no-events p ticks seen (events, jitters, flips, wire, route) = record {
   events_fit = rw events (All-nil (λ e. IsTrue (event_fits p ticks e)));
   jitters_fit = rw jitters (All-nil (λ j. IsTrue (jitter_fits j)));
   flips_fit = rw flips (All-nil (λ f. IsTrue (flip_fits p ticks f)));
@@ -258,6 +259,13 @@ ramp-fits p ts words e none =
       none,
     )
 
+-- the lanes of a record are an order of the lanes
+lanes-order : (p : Params) (ts : List Text) → fault_of (length ts) (lanes_checks p ts) ≡ None
+    → is_order p.l (lanes_in_fields p ts) ≡ true
+lanes-order p ts e =
+    let h = holds (length ts) (lanes_checks p ts) e in
+    order-of-lanes p.l (lanes_in_fields p ts) (length-fields p.l 1 ts) h.ranges
+
 input-frames : (p : Params) (o : Option Ramp) (words : List ℕ) → is_none o ≡ true
     → IsInput p o words → AreFrames p words
 input-frames p None words e input = input
@@ -275,14 +283,14 @@ no-length (w ∷ words) e = absurd (omega arith)
 event-sound : (seen : Seen) (b : Setup) (e : Event) → seen.stage ≡ stage.Body b
     → AreSound (stage.Body b) seen → event_fits b.link.params b.ticks e ≡ true
     → first (room_for_event (events_so_far seen) ∷ []) ≡ None → IsSound (with_event seen e)
-event-sound seen b e is (input, octets, ticks, events) fits more =
+event-sound seen b e is (input, octets, ticks, events, lanes) fits more =
     at-stage (stage.Body b) seen.stage (with_event seen e) is
-    (input, octets, ticks, event-more b.link.params b.ticks seen e events fits more)
+    (input, octets, ticks, event-more b.link.params b.ticks seen e events fits more, lanes)
 
 body-frame : (seen : Seen) (ts : List Text) (b : Setup) (next : Seen)
     → in_body seen ts b kind.Frame ≡ Ok next → seen.stage ≡ stage.Body b
     → AreSound (stage.Body b) seen → IsSound next
-body-frame seen ts b next e is (input, octets, ticks, events) = elim (cases_Bool (is_none b.ramp)) [
+body-frame seen ts b next e is (input, octets, ticks, events, lanes) = elim (cases_Bool (is_none b.ramp)) [
   | inl y ↦
       let added : add ts (frame_checks b.link.params ts)
       (record seen { words = seen.words ++ words_in_fields ts }) ≡ Ok next = rw y at e in
@@ -295,6 +303,7 @@ body-frame seen ts b next e is (input, octets, ticks, events) = elim (cases_Bool
         octets,
         ticks,
         events,
+        lanes,
       ))
   | inr n ↦ let bad : misplaced ≡ Ok next = rw n at e in cc bad
 ]
@@ -302,7 +311,7 @@ body-frame seen ts b next e is (input, octets, ticks, events) = elim (cases_Bool
 body-ramp : (seen : Seen) (ts : List Text) (b : Setup) (next : Seen)
     → in_body seen ts b kind.Ramp ≡ Ok next
     → AreSound (stage.Body b) seen → IsSound next
-body-ramp seen ts b next e (input, octets, ticks, events) =
+body-ramp seen ts b next e (input, octets, ticks, events, lanes) =
     elim (cases_Bool (is_none b.ramp && (length seen.words == 0))) [
       | inl y ↦
           let added : add ts (ramp_checks b.link.params ts)
@@ -312,7 +321,7 @@ body-ramp seen ts b next e (input, octets, ticks, events) =
           let none =
           no-length seen.words
           (eqb-true (length seen.words) 0 (and_parts (is_none b.ramp) _ y).1) in
-          rw (← ok.1) (ramp-fits b.link.params ts seen.words ok.0 none, octets, ticks, events)
+          rw (← ok.1) (ramp-fits b.link.params ts seen.words ok.0 none, octets, ticks, events, lanes)
       | inr n ↦ let bad : misplaced ≡ Ok next = rw n at e in cc bad
     ]
 
@@ -336,18 +345,63 @@ body-sound seen ts b kind.Dead next e is sound =
     let h = holds (length ts) (dead_checks (events_so_far seen) b ts) ok.0 in
     rw (← ok.1) (event-sound seen b (dead_of ts) is sound (dead-fits (events_so_far seen) b ts h)
     h.more)
-body-sound seen ts b kind.Jitter next e is (input, octets, ticks, events) =
+body-sound seen ts b kind.Jitter next e is (input, octets, ticks, events, lanes) =
     let ok = or_fault-Ok _ _ next e in
     rw (← ok.1)
     (at-stage (stage.Body b) seen.stage
     (record seen { jitters = seen.jitters ++ jitter_of ts ∷ [] }) is
-    (input, octets, ticks, jitter-more b.link.params b.ticks seen ts events ok.0))
-body-sound seen ts b kind.Flip next e is (input, octets, ticks, events) =
+    (input, octets, ticks, jitter-more b.link.params b.ticks seen ts events ok.0, lanes))
+body-sound seen ts b kind.Flip next e is (input, octets, ticks, events, lanes) =
     let ok = or_fault-Ok _ _ next e in
     rw (← ok.1)
     (at-stage (stage.Body b) seen.stage (record seen { flips = seen.flips ++ flip_of ts ∷ [] })
     is
-    (input, octets, ticks, flip-more b seen ts events ok.0))
+    (input, octets, ticks, flip-more b seen ts events ok.0, lanes))
+body-sound seen ts b kind.Wire next e is (input, octets, ticks, events, lanes) =
+    elim (cases_Bool (length seen.wire == 0)) [
+      | inl y ↦
+          let now : List ℕ = lanes_in_fields b.link.params ts in
+          let added : add ts (lanes_checks b.link.params ts) (record seen { wire = now }) ≡ Ok next =
+          rw y at e in
+          let ok = or_fault-Ok _ _ next added in
+          rw (← ok.1)
+          (at-stage (stage.Body b) seen.stage (record seen { wire = now }) is (
+            input,
+            octets,
+            ticks,
+            events,
+            record {
+              wire_lanes = inr (lanes-order b.link.params ts ok.0);
+              route_lanes = lanes.route_lanes;
+            },
+          ))
+      | inr n ↦ let bad : misplaced ≡ Ok next = rw n at e in cc bad
+    ]
+body-sound seen ts b kind.Route next e is (input, octets, ticks, events, lanes) =
+    elim (cases_Bool (length seen.route == 0)) [
+      | inl y ↦
+          let now : List ℕ = lanes_in_fields b.link.params ts in
+          let added : add ts (lanes_checks b.link.params ts) (record seen { route = now }) ≡ Ok next =
+          rw y at e in
+          let ok = or_fault-Ok _ _ next added in
+          rw (← ok.1)
+          (at-stage (stage.Body b) seen.stage (record seen { route = now }) is (
+            input,
+            octets,
+            ticks,
+            events,
+            record {
+              wire_lanes = lanes.wire_lanes;
+              route_lanes = inr (lanes-order b.link.params ts ok.0);
+            },
+          ))
+      | inr n ↦ let bad : misplaced ≡ Ok next = rw n at e in cc bad
+    ]
+body-sound seen ts b kind.Polarity next e is sound =
+    let ok = or_fault-Ok _ _ next e in
+    rw (← ok.1)
+    (at-stage (stage.Body b) seen.stage
+    (record seen { polarities = seen.polarities ++ polarity_of ts ∷ [] }) is sound)
 body-sound seen ts b k next e is sound = cc e
 
 kind-sound : (seen : Seen) (fields : List Text) (s : Stage) (k : Kind) (next : Seen)
@@ -379,6 +433,7 @@ kind-sound seen fields (stage.Run k) kind.Run next e is (words, octets, none) =
       octets,
       run-ticks k.params fields ok.0,
       no-events k.params (num fields 1) seen none,
+      record { wire_lanes = inl none.3; route_lanes = inl none.4 },
     )
 kind-sound seen fields (stage.Body b) k next e is sound = body-sound seen fields b k next e is sound
 kind-sound seen fields s k next e is sound = cc e

@@ -25,6 +25,9 @@ seen_of r = record {
   events = r.events.items;
   jitters = r.jitters.items;
   flips = r.flips.items;
+  wire = r.wire.items;
+  route = r.route.items;
+  polarities = r.polarities.items;
 }
 
 -- one step of the reader is a step of the definition; want of memory is free

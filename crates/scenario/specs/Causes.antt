@@ -17,4 +17,3 @@ cause_number cause.Law = 8
 cause_number cause.RunSize = 9
 cause_number cause.TooMany = 10
 cause_number cause.Missing = 11
-cause_number cause.NotBuilt = 12

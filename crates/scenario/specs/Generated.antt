@@ -1,7 +1,7 @@
 -- The scenario of a number: what `gen` runs, drawn from the number alone (this project's own).
 -- Places and ticks are counted from 0.
 -- Code: one draw after another, over the state of the last one.
-use Rattle.std.specs.Prelude.{ℕ, zero, suc, ◌+◌, ◌-◌, ◌*◌, ◌/◌, ◌%◌, ◌^◌, ◌==◌, true, false, if◌then◌else◌, [], ◌∷◌, ◌++◌, map, pos, ◌-ℤ◌}
+use Rattle.std.specs.Prelude.{ℕ, zero, suc, ◌+◌, ◌-◌, ◌*◌, ◌/◌, ◌%◌, ◌^◌, ◌==◌, true, false, if◌then◌else◌, [], ◌∷◌, ◌++◌, map, replicate, pos, ◌-ℤ◌}
 use Rattle.link_params.specs.declared.fields.Mode.{Mode}
 use Rattle.link_params.specs.declared.fields.Mode.TheVariants as mode
 use Rattle.link_params.specs.declared.fields.Params.{Params}
@@ -117,9 +117,11 @@ drawn_flip number p i = let at = 15 + 2 * p.l + 3 * i in record {
 -- ---- the plan of a number
 
 -- 16,384 ticks of words that count from 0, of which no frame is printed; each lane has a delay, a
--- device is reset once, the first eight edges have jitter, and there are sixteen flips
+-- device is reset once, the first eight edges have jitter, and there are sixteen flips; the lanes are
+-- wired in their order, and none is inverted
 unfoldable pub generated : ℕ → Plan
 generated number = let p = drawn_params number in record {
+  version = 1;
   link = record { params = p; timing = drawn_timing number p };
   ticks = 16384;
   print = print.None;
@@ -127,4 +129,7 @@ generated number = let p = drawn_params number in record {
   events = map (drawn_delay number p) (numbers_from 0 p.l) ++ drawn_reset number p ∷ [];
   jitters = map (drawn_jitter number p) (numbers_from 0 8);
   flips = map (drawn_flip number p) (numbers_from 0 16);
+  wire = numbers_from 0 p.l;
+  route = numbers_from 0 p.l;
+  inverted = replicate p.l false;
 }

@@ -3,6 +3,7 @@ pub mod Causes
 pub mod Check
 pub mod Reads
 pub mod Inputs
+pub mod Numbers
 pub mod Plans
 pub mod Generated
 pub mod Limits

@@ -1,7 +1,8 @@
 -- What the values of a scenario obey (this project's own limits). Ticks and edges are counted from
 -- 0, delays and flips are in bits, and jitter is in sixteenths of a tick.
 -- Code: early returns, record by record.
-use Rattle.std.specs.Prelude.{ℕ, ◌+◌, ◌-◌, ◌*◌, nat_le, nat_lt, ◌&&◌, Bool, true, false, length, pos, neg_ℤ, int_le}
+use Rattle.std.specs.Prelude.{ℕ, ◌+◌, ◌-◌, ◌*◌, ◌==◌, nat_le, nat_lt, ◌&&◌, List, Bool, true, false, length, pos, neg_ℤ, int_le}
+use Rattle.std.specs.List.{list_all, list_any}
 use Rattle.link_params.specs.declared.fields.Params.{Params}
 use Rattle.link_params.specs.Numbers.{period, width}
 use Rattle.scenario.specs.declared.input.Input.{Input}
@@ -11,6 +12,7 @@ use Rattle.scenario.specs.declared.plan.What.TheVariants.{Reset, Delay, Dead}
 use Rattle.scenario.specs.declared.plan.Event.{Event}
 use Rattle.scenario.specs.declared.plan.Jitter.{Jitter}
 use Rattle.scenario.specs.declared.plan.Flip.{Flip}
+use Rattle.scenario.specs.Numbers.{numbers_from}
 use Rattle.scenario.specs.Reads.{word_limit}
 
 abbrev pub what_fits : Params → What → Bool
@@ -44,3 +46,9 @@ has_words (Frames words) = nat_le 1 (length words.items)
 abbrev pub is_frames : Input → Bool
 is_frames (Ramp start step) = false
 is_frames (Frames words) = true
+
+-- these are the lanes below l, each once, in some order: there are l of them, all below l, and each
+-- lane below l is one of them
+unfoldable pub is_order : ℕ → List ℕ → Bool
+is_order l lanes = (length lanes == l) && list_all (λ x. nat_lt x l) lanes
+    && list_all (λ lane. list_any (λ x. x == lane) lanes) (numbers_from 0 l)

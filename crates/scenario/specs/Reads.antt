@@ -1,9 +1,9 @@
 -- What an input says to a job, or the first thing that is wrong with it: a table of checks for each
 -- kind of record, and a fold over the records.
 -- Code: one record at a time, with an early exit.
-use Rattle.std.specs.Prelude.{◌≡◌, ℕ, zero, suc, ◌+◌, ◌-◌, ◌*◌, ◌/◌, ◌^◌, ◌==◌, ◌&&◌, nat_lt, nat_le, Bool, true, false, List, [], ◌∷◌, ◌++◌, length, map, Option, Some, None, Result, Ok, Err, if◌then◌else◌, codes, is_some, is_none, unwrap_or, option_map, drop, ℤ, pos, neg_ℤ, int_le}
+use Rattle.std.specs.Prelude.{◌≡◌, ℕ, zero, suc, ◌+◌, ◌-◌, ◌*◌, ◌/◌, ◌^◌, ◌==◌, ◌&&◌, nat_lt, nat_le, Bool, true, false, List, [], ◌∷◌, ◌++◌, length, map, not, Option, Some, None, Result, Ok, Err, if◌then◌else◌, codes, is_some, is_none, unwrap_or, option_map, drop, ℤ, pos, neg_ℤ, int_le}
 use Rattle.std.specs.Str.{bytes_eq}
-use Rattle.std.specs.List.{list_all, slice_index_or}
+use Rattle.std.specs.List.{list_all, list_any, slice_index_or}
 use Rattle.csv.specs.Reading.{default_config, records, strip_bom}
 use Rattle.csv.specs.Records.{Row, fields_of}
 use Rattle.link_params.specs.declared.fields.Params.{Params}
@@ -28,6 +28,7 @@ use Rattle.scenario.specs.declared.plan.What.TheVariants as what
 use Rattle.scenario.specs.declared.plan.Event.{Event}
 use Rattle.scenario.specs.declared.plan.Jitter.{Jitter}
 use Rattle.scenario.specs.declared.plan.Flip.{Flip}
+use Rattle.scenario.specs.declared.stage.Polarity.{Polarity}
 use Rattle.scenario.specs.declared.stage.Ramp.{Ramp}
 use Rattle.scenario.specs.declared.stage.Setup.{Setup}
 use Rattle.scenario.specs.declared.stage.Stage.{Stage}
@@ -106,7 +107,7 @@ kinds_1 = (codes "jesd", kind.Jesd) ∷ (codes "link", kind.Link) ∷ (codes "ti
 -- the kinds that version 2 adds
 abbrev pub kinds_2 : List (Text × Kind)
 kinds_2 = (codes "wire", kind.Wire) ∷ (codes "route", kind.Route)
-    ∷ (codes "polarity", kind.Polarity) ∷ (codes "subclass", kind.Subclass) ∷ []
+    ∷ (codes "polarity", kind.Polarity) ∷ []
 
 abbrev pub or_else : {X : Type 0} → Option X → Option X → Option X
 or_else None o = o
@@ -343,11 +344,46 @@ flip_checks n b fields = record {
 abbrev pub flip_of : List Text → Flip
 flip_of fields = record { lane = num fields 1; first = num fields 2; count = num fields 3 }
 
+-- for each of these lanes: it is below l, and none of the lanes before it
+abbrev pub are_lanes : ℕ → List ℕ → List ℕ → List Bool
+are_lanes l before [] = []
+are_lanes l before (x ∷ xs) = (nat_lt x l && not (list_any (λ y. y == x) before))
+    ∷ are_lanes l (before ++ x ∷ []) xs
+
+-- the lanes in the fields of a record
+abbrev pub lanes_in_fields : Params → List Text → List ℕ
+lanes_in_fields p fields = numbers_in_fields 1 p.l fields
+
+-- `wire` and `route`: L lanes, each in one field alone
+abbrev pub lanes_checks : Params → List Text → Checks
+lanes_checks p fields = record {
+  count = p.l;
+  forms = are_numbers 1 p.l fields;
+  ranges = are_lanes p.l [] (lanes_in_fields p fields);
+  more = [];
+}
+
+-- `polarity`: lane, exchange, undo; the last two are 0 or 1
+abbrev pub polarity_checks : Params → List Text → Checks
+polarity_checks p fields = record {
+  count = 3;
+  forms = are_numbers 1 3 fields;
+  ranges = nat_lt (num fields 1) p.l ∷ nat_le (num fields 2) 1 ∷ nat_le (num fields 3) 1 ∷ [];
+  more = [];
+}
+
+-- the bits are inverted where the wires are exchanged and the receiver does not undo it, or the other
+-- way round
+abbrev pub polarity_of : List Text → Polarity
+polarity_of fields =
+    record { lane = num fields 1; inverted = not (num fields 2 == num fields 3) }
+
 -- ---- one record
 
 -- what the records so far say: the version of the format (0 before the first record), the place in
 -- the order of records with what is fixed there, the words of all frames, the octets of all records
--- `octets`, and what the records of each kind for a run say, in their order
+-- `octets`, what the records of each kind for a run say, in their order, and the lanes of the
+-- records `wire` and `route`, none where there was no such record
 pub record Seen : Type 0 where
   pub version : ℕ
   pub stage : Stage
@@ -356,6 +392,9 @@ pub record Seen : Type 0 where
   pub events : List Event
   pub jitters : List Jitter
   pub flips : List Flip
+  pub wire : List ℕ
+  pub route : List ℕ
+  pub polarities : List Polarity
 
 abbrev pub nothing : Seen
 nothing = record {
@@ -367,6 +406,9 @@ nothing = record {
       [];
   jitters = [];
   flips = [];
+  wire = [];
+  route = [];
+  polarities = [];
 }
 
 -- events and jitters count together
@@ -390,11 +432,8 @@ after_link job.Run p = stage.Timing p
 abbrev pub with_event : Seen → Event → Seen
 with_event seen e = record seen { events = seen.events ++ e ∷ [] }
 
--- a kind that is not built yet
-abbrev pub unbuilt : Result Seen Fault
-unbuilt = Err (fault cause.NotBuilt 0)
-
--- a record after `run`; a ramp stands at most once, and not together with frames
+-- a record after `run`; a ramp stands at most once, and not together with frames, and `wire` and
+-- `route` at most once each
 abbrev pub in_body : Seen → List Text → Setup → Kind → Result Seen Fault
 in_body seen fields b kind.Frame = if is_none b.ramp
     then add fields (frame_checks b.link.params fields)
@@ -414,10 +453,16 @@ in_body seen fields b kind.Jitter = add fields (jitter_checks (events_so_far see
     (record seen { jitters = seen.jitters ++ jitter_of fields ∷ [] })
 in_body seen fields b kind.Flip = add fields (flip_checks (flipped seen.flips) b fields)
     (record seen { flips = seen.flips ++ flip_of fields ∷ [] })
-in_body seen fields b kind.Wire = unbuilt
-in_body seen fields b kind.Route = unbuilt
-in_body seen fields b kind.Polarity = unbuilt
-in_body seen fields b kind.Subclass = unbuilt
+in_body seen fields b kind.Wire = if length seen.wire == 0
+    then add fields (lanes_checks b.link.params fields)
+    (record seen { wire = lanes_in_fields b.link.params fields })
+    else misplaced
+in_body seen fields b kind.Route = if length seen.route == 0
+    then add fields (lanes_checks b.link.params fields)
+    (record seen { route = lanes_in_fields b.link.params fields })
+    else misplaced
+in_body seen fields b kind.Polarity = add fields (polarity_checks b.link.params fields)
+    (record seen { polarities = seen.polarities ++ polarity_of fields ∷ [] })
 in_body seen fields b k = misplaced
 
 -- a record of a known kind, at a place in the order

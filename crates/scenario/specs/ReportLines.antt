@@ -1,6 +1,6 @@
 -- The lines of a report (this project's own format).
 -- Code: each line is written into a buffer.
-use Rattle.std.specs.Prelude.{ℕ, List, [], ◌∷◌, ◌++◌, codes, decimal}
+use Rattle.std.specs.Prelude.{ℕ, nat_le, if◌then◌else◌, List, [], ◌∷◌, ◌++◌, codes, decimal}
 use Rattle.std.specs.List.{flat_map}
 use Rattle.link_params.specs.declared.fields.Params.{Params}
 use Rattle.link_params.specs.declared.cells.Mark.{Mark}
@@ -36,32 +36,39 @@ mark_name mark.Ok = codes "ok"
 mark_name mark.Fixed = codes "fixed"
 mark_name mark.Bad = codes "bad"
 
--- the fields of an alarm behind its tick
-abbrev pub alarm_fields : Alarm → List (List ℕ)
-alarm_fields (alarm.LaneWindow lane offset) = codes "lane_window" ∷ decimal lane ∷ decimal offset
-    ∷ []
-alarm_fields (alarm.LaneMissing lane) = codes "lane_missing" ∷ decimal lane ∷ []
-alarm_fields (alarm.LaneLost lane) = codes "lane_lost" ∷ decimal lane ∷ []
-alarm_fields (alarm.NoLock lane) = codes "no_lock" ∷ decimal lane ∷ []
-alarm_fields (alarm.IlasFault lane place) = codes "ilas_fault" ∷ decimal lane ∷ decimal place ∷ []
-alarm_fields (alarm.ConfigMismatch lane octet) = codes "config_mismatch" ∷ decimal lane
-    ∷ decimal octet ∷ []
-alarm_fields (alarm.SysrefPhase d off) = codes "sysref_phase" ∷ device_name d ∷ decimal off ∷ []
-alarm_fields alarm.StartTimeout = codes "start_timeout" ∷ []
+-- the fields of another lane's number: version 1 of the format has configuration octet 2 in its place
+abbrev pub lane_id_fields : ℕ → ℕ → ℕ → List (List ℕ)
+lane_id_fields version lane lid = if nat_le 2 version
+    then codes "lane_id" ∷ decimal lane ∷ decimal lid ∷ []
+    else codes "config_mismatch" ∷ decimal lane ∷ decimal 2 ∷ []
 
--- the line of a row, with the words of an enter or a frame row
-unfoldable pub line_of : Link → Row → List ℕ → List ℕ
-line_of k row.Link words =
+-- the fields of an alarm behind its tick, in a version of the format
+abbrev pub alarm_fields : ℕ → Alarm → List (List ℕ)
+alarm_fields version (alarm.LaneWindow lane offset) = codes "lane_window" ∷ decimal lane ∷ decimal offset
+    ∷ []
+alarm_fields version (alarm.LaneMissing lane) = codes "lane_missing" ∷ decimal lane ∷ []
+alarm_fields version (alarm.LaneLost lane) = codes "lane_lost" ∷ decimal lane ∷ []
+alarm_fields version (alarm.NoLock lane) = codes "no_lock" ∷ decimal lane ∷ []
+alarm_fields version (alarm.IlasFault lane place) = codes "ilas_fault" ∷ decimal lane ∷ decimal place ∷ []
+alarm_fields version (alarm.ConfigMismatch lane octet) = codes "config_mismatch" ∷ decimal lane
+    ∷ decimal octet ∷ []
+alarm_fields version (alarm.LaneId lane lid) = lane_id_fields version lane lid
+alarm_fields version (alarm.SysrefPhase d off) = codes "sysref_phase" ∷ device_name d ∷ decimal off ∷ []
+alarm_fields version alarm.StartTimeout = codes "start_timeout" ∷ []
+
+-- the line of a row, with the words of an enter or a frame row, in a version of the format
+unfoldable pub line_of : ℕ → Link → Row → List ℕ → List ℕ
+line_of version k row.Link words =
     line (codes "link") (decimal (period k.params) ∷ decimal (lat_ticks k.params k.timing)
     ∷ decimal (latency k.params k.timing) ∷ decimal (depth k.params k.timing)
     ∷ decimal (bound k.params k.timing) ∷ [])
-line_of k (row.Hunt t) words = line (codes "hunt") (decimal t ∷ [])
-line_of k (row.Arm t) words = line (codes "arm") (decimal t ∷ [])
-line_of k (row.Release t) words = line (codes "release") (decimal t ∷ [])
-line_of k (row.Alarm t a) words = line (codes "alarm") (decimal t ∷ alarm_fields a)
-line_of k (row.Enter o) words = line (codes "enter") (decimal o ∷ word_fields k.params words)
-line_of k (row.Frame o m) words =
+line_of version k (row.Hunt t) words = line (codes "hunt") (decimal t ∷ [])
+line_of version k (row.Arm t) words = line (codes "arm") (decimal t ∷ [])
+line_of version k (row.Release t) words = line (codes "release") (decimal t ∷ [])
+line_of version k (row.Alarm t a) words = line (codes "alarm") (decimal t ∷ alarm_fields version a)
+line_of version k (row.Enter o) words = line (codes "enter") (decimal o ∷ word_fields k.params words)
+line_of version k (row.Frame o m) words =
     line (codes "frame") (decimal o ∷ mark_name m ∷ word_fields k.params words)
-line_of k (row.End n) words =
+line_of version k (row.End n) words =
     line (codes "end") (decimal n.ticks ∷ decimal n.entered ∷ decimal n.delivered ∷ decimal n.ok
     ∷ decimal n.fixed ∷ decimal n.bad ∷ decimal n.alarms ∷ decimal n.fullest ∷ [])

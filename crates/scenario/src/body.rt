@@ -1,12 +1,10 @@
 //! The records after `run`.
-ghost use Rattle.std.specs.Prelude.{◌≡◌, ◌<◌, ◌^◌, ◌++◌, ◌∷◌, [], List, None, Some, OnErr, length};
-ghost use Rattle.scenario.specs.Text.{Text};
+ghost use Rattle.std.specs.Prelude.{◌≡◌, ◌<◌, ◌^◌, ◌++◌, ◌∷◌, [], None, Some, OnErr, length};
 ghost use Rattle.scenario.specs.Check.{KeptOr};
 ghost use Rattle.scenario.specs.declared.kind.Kind.TheVariants as kind;
 ghost use Rattle.scenario.specs.Reads.{texts_of, of_kind, events_so_far};
 ghost use Rattle.scenario.specs.Answer.{seen_of, StepsTo};
 
-use crate::cause::Cause;
 use crate::event::{read_dead, read_delay, read_reset};
 use crate::fault::RecordFault;
 use crate::flip::read_flip;
@@ -15,6 +13,7 @@ use crate::ramp::read_ramp;
 use crate::reading::Reading;
 use crate::stage::{Ramp, Setup, Stage};
 use crate::steps::misplaced;
+use crate::wiring::{read_lanes, read_polarity};
 use csv::ByteRecord;
 
 /// Keeps what was read.
@@ -150,24 +149,48 @@ impl Reading {
         }
     }
 
-    /// A record of a kind of version 2; none of them is built yet.
-    pub fn newer(&self) -> Result<(), RecordFault>
-        ensures wire { (fields : List Text)
-            → StepsTo (of_kind (seen_of self.now) fields self.now.stage kind.Wire)
-            (seen_of self.now) result }
-        ensures route { (fields : List Text)
-            → StepsTo (of_kind (seen_of self.now) fields self.now.stage kind.Route)
-            (seen_of self.now) result }
-        ensures polarity { (fields : List Text)
-            → StepsTo (of_kind (seen_of self.now) fields self.now.stage kind.Polarity)
-            (seen_of self.now) result }
-        ensures subclass { (fields : List Text)
-            → StepsTo (of_kind (seen_of self.now) fields self.now.stage kind.Subclass)
-            (seen_of self.now) result }
+    /// A record `wire`.
+    pub fn wire(&mut self, row: &ByteRecord) -> Result<(), RecordFault>
+        requires { length (texts_of row.now) < 2 ^ 32 }
+        ensures { StepsTo (of_kind (seen_of self.old) (texts_of row.now) self.old.stage kind.Wire)
+            (seen_of self.new) result }
     {
-        let Stage::Body(_) = &self.stage else {
+        let Stage::Body(setup) = &self.stage else {
             return misplaced();
         };
-        Err(RecordFault::Bad(Cause::NotBuilt.at(0)))
+        if !self.wire.as_slice().is_empty() {
+            return misplaced();
+        }
+        read_lanes(row, &setup.link.shape(), &mut self.wire)
+    }
+
+    /// A record `route`.
+    pub fn route(&mut self, row: &ByteRecord) -> Result<(), RecordFault>
+        requires { length (texts_of row.now) < 2 ^ 32 }
+        ensures { StepsTo (of_kind (seen_of self.old) (texts_of row.now) self.old.stage kind.Route)
+            (seen_of self.new) result }
+    {
+        let Stage::Body(setup) = &self.stage else {
+            return misplaced();
+        };
+        if !self.route.as_slice().is_empty() {
+            return misplaced();
+        }
+        read_lanes(row, &setup.link.shape(), &mut self.route)
+    }
+
+    /// A record `polarity`.
+    pub fn polarity(&mut self, row: &ByteRecord) -> Result<(), RecordFault>
+        requires { length (texts_of row.now) < 2 ^ 32 }
+        ensures { StepsTo (of_kind (seen_of self.old) (texts_of row.now) self.old.stage
+            kind.Polarity) (seen_of self.new) result }
+    {
+        let Stage::Body(setup) = &self.stage else {
+            return misplaced();
+        };
+        match read_polarity(row, &setup.link.shape()) {
+            Ok(polarity) => push(&mut self.polarities, polarity),
+            Err(fault) => Err(RecordFault::Bad(fault)),
+        }
     }
 }

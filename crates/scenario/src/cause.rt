@@ -30,8 +30,6 @@ pub enum Cause {
     TooMany,
     /// Required records are missing.
     Missing,
-    /// A kind of version 2, none of which is built.
-    NotBuilt,
 }
 
 impl Cause {
@@ -51,7 +49,6 @@ impl Cause {
             Cause::RunSize => 9,
             Cause::TooMany => 10,
             Cause::Missing => 11,
-            Cause::NotBuilt => 12,
         }
     }
 

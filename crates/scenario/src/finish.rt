@@ -1,11 +1,11 @@
 //! The scenario that the records spell.
-ghost use Rattle.std.specs.Prelude.{◌≡◌, ◌-◌, ◌<◌, ◌^◌, ◌⊎◌, ℕ, All, Ok, OnOk};
+ghost use Rattle.std.specs.Prelude.{◌≡◌, ◌==◌, ◌-◌, ◌<◌, ◌^◌, ◌⊎◌, ℕ, if◌then◌else◌, All, IfOk, OnOk};
 ghost use Rattle.std.specs.List.Sorted.{IsNonDecreasingBy, IsPermutation};
 ghost use Rattle.scenario.specs.declared.plan.Event.{Event as EventValue};
 ghost use Rattle.scenario.specs.declared.stage.Stage.TheVariants as stage;
 ghost use Rattle.scenario.specs.Reads.{ended};
 ghost use Rattle.scenario.specs.kept.Sound.{IsSound};
-ghost use Rattle.scenario.specs.Plans.{in_order, source_in, source_of};
+ghost use Rattle.scenario.specs.Plans.{in_order, is_inverted_lane, source_in, source_of, inverted_lanes};
 ghost use Rattle.scenario.specs.Answer.{Answers, Holds, seen_of};
 
 use crate::cause::Cause;
@@ -14,9 +14,10 @@ use crate::input::Input;
 use crate::plan::{Event, Print};
 use crate::reading::Reading;
 use crate::scenario_type::Scenario;
-use crate::stage::{Ramp, Setup, Stage};
+use crate::stage::{Polarity, Ramp, Setup, Stage};
+use crate::wiring::{all_lanes, lanes_or};
 use link_params::Shape;
-use std::alloc::AllocError;
+use std::alloc::{AllocError, Global};
 
 /// The words that go in: those of the ramp, or of the frames; with neither they count from 0.
 fn input_of(ramp: Option<Ramp>, words: Vec<u32>) -> Input
@@ -47,14 +48,52 @@ fn sort_events(events: &mut Vec<Event>) -> Result<(), AllocError>
     events.sort_by_key(|event| event.tick)
 }
 
+/// Whether all bits of a lane are inverted, by the last record for it.
+fn is_inverted_lane(polarities: &[Polarity], lane: u32) -> bool
+    ensures { result ≡ is_inverted_lane polarities.now lane }
+{
+    let mut inverted = false;
+    for polarity in polarities {
+        inverted = inverted_by(lane, inverted, polarity);
+    }
+    inverted
+}
+
+// The same once one more record is seen.
+fn inverted_by(lane: u32, before: bool, polarity: &Polarity) -> bool
+    ensures { result ≡ (if polarity.now.lane == lane then polarity.now.inverted else before) }
+{
+    if polarity.lane == lane {
+        polarity.inverted
+    } else {
+        before
+    }
+}
+
+/// The same of each lane. The error is want of memory.
+fn inverted_lanes(
+    alloc: Global,
+    count: u32,
+    polarities: &[Polarity],
+) -> Result<Vec<bool>, AllocError>
+    ensures { IfOk result (λ v. v.items ≡ inverted_lanes count polarities.now) }
+{
+    let mut lanes = Vec::new(alloc);
+    for lane in 0..count {
+        lanes.push(is_inverted_lane(polarities, lane))?;
+    }
+    Ok(lanes)
+}
+
 impl Reading {
     /// What is to be mapped or unmapped.
-    fn mapped(self, shape: Shape) -> Scenario
+    fn mapped(self, alloc: Global, shape: Shape) -> Result<Scenario, AllocError>
         requires place { (self.stage ≡ stage.Frames shape) ⊎ (self.stage ≡ stage.Octets shape) }
         requires sound { IsSound (seen_of self) }
-        ensures { Holds result (seen_of self) }
+        ensures { IfOk result (λ s. Holds s (seen_of self)) }
     {
         let Reading {
+            version,
             words,
             octets,
             events,
@@ -62,7 +101,9 @@ impl Reading {
             flips,
             ..
         } = self;
-        Scenario {
+        let lanes = shape.lanes();
+        Ok(Scenario {
+            version,
             shape,
             link: None,
             ticks: 0,
@@ -72,41 +113,55 @@ impl Reading {
             events,
             jitters,
             flips,
-        }
+            wire: all_lanes(alloc, lanes)?,
+            route: all_lanes(alloc, lanes)?,
+            inverted: inverted_lanes(alloc, lanes, &[])?,
+        })
     }
 
     /// The scenario of a run.
-    fn planned(self, setup: Setup) -> Result<Scenario, ScenarioFault>
+    fn planned(self, alloc: Global, setup: Setup) -> Result<Scenario, AllocError>
         requires place { self.stage ≡ stage.Body setup }
         requires sound { IsSound (seen_of self) }
-        ensures { Answers (Ok (seen_of self)) result }
+        ensures { IfOk result (λ s. Holds s (seen_of self)) }
     {
         let Reading {
+            version,
             words,
             octets,
             mut events,
             jitters,
             flips,
+            wire,
+            route,
+            polarities,
             ..
         } = self;
-        match sort_events(&mut events) {
-            Ok(()) => Ok(Scenario {
-                shape: setup.link.shape(),
-                link: Some(setup.link),
-                ticks: setup.ticks,
-                print: setup.print,
-                input: input_of(setup.ramp, words),
-                octets,
-                events,
-                jitters,
-                flips,
-            }),
-            Err(_) => Err(ScenarioFault::NoMemory),
-        }
+        sort_events(&mut events)?;
+        let shape = setup.link.shape();
+        let lanes = shape.lanes();
+        let wire = lanes_or(alloc, wire, lanes)?;
+        let route = lanes_or(alloc, route, lanes)?;
+        let inverted = inverted_lanes(alloc, lanes, polarities.as_slice())?;
+        Ok(Scenario {
+            version,
+            shape,
+            link: Some(setup.link),
+            ticks: setup.ticks,
+            print: setup.print,
+            input: input_of(setup.ramp, words),
+            octets,
+            events,
+            jitters,
+            flips,
+            wire,
+            route,
+            inverted,
+        })
     }
 
     /// The scenario, if the required records were read.
-    pub fn finish(self, rows: u32) -> Result<Scenario, ScenarioFault>
+    pub fn finish(self, alloc: Global, rows: u32) -> Result<Scenario, ScenarioFault>
         requires few { rows < 2 ^ 32 - 1 }
         requires sound { IsSound (seen_of self) }
         ensures { Answers (ended rows (seen_of self)) result }
@@ -114,11 +169,17 @@ impl Reading {
         match &self.stage {
             Stage::Frames(shape) | Stage::Octets(shape) => {
                 let shape = *shape;
-                Ok(self.mapped(shape))
+                match self.mapped(alloc, shape) {
+                    Ok(scenario) => Ok(scenario),
+                    Err(_) => Err(ScenarioFault::NoMemory),
+                }
             }
             Stage::Body(setup) => {
                 let setup = *setup;
-                self.planned(setup)
+                match self.planned(alloc, setup) {
+                    Ok(scenario) => Ok(scenario),
+                    Err(_) => Err(ScenarioFault::NoMemory),
+                }
             }
             Stage::Version => Err(ScenarioFault::Bad {
                 row: 0,

@@ -1,5 +1,5 @@
 //! The scenario that is made from a number.
-ghost use Rattle.std.specs.Prelude.{◌≡◌, ◌≤◌, ◌+◌, ◌*◌, [], IfOk, Some};
+ghost use Rattle.std.specs.Prelude.{◌≡◌, ◌≤◌, ◌+◌, ◌*◌, [], IfOk, Some, false, replicate};
 ghost use Rattle.scenario.specs.Generated.{generated};
 ghost use Rattle.scenario.specs.Plans.{plan_of};
 
@@ -10,8 +10,16 @@ use crate::draws::Draws;
 use crate::input::Input;
 use crate::plan::Print;
 use crate::scenario_type::Scenario;
+use crate::wiring::all_lanes;
 use jesd_base::NoMemory;
 use std::alloc::{AllocError, Global};
+
+// No lane whose bits are inverted. The error is want of memory.
+fn none_inverted(alloc: Global, count: u32) -> Result<Vec<bool>, AllocError>
+    ensures { IfOk result (λ v. v.items ≡ replicate count false) }
+{
+    vec![in alloc; false; count as usize]
+}
 
 fn drawn_scenario(alloc: Global, number: u32) -> Result<Scenario, AllocError>
     ensures plan { IfOk result (λ s. plan_of s ≡ Some (generated number)) }
@@ -24,7 +32,9 @@ fn drawn_scenario(alloc: Global, number: u32) -> Result<Scenario, AllocError>
     let jitters = drawn_jitters(alloc, &mut draws)?;
     events.push(drawn_reset(&mut draws))?;
     let flips = drawn_flips(alloc, &shape, &mut draws)?;
+    let lanes = shape.lanes();
     Ok(Scenario {
+        version: 1,
         shape,
         link: Some(link),
         ticks: TICKS,
@@ -34,6 +44,9 @@ fn drawn_scenario(alloc: Global, number: u32) -> Result<Scenario, AllocError>
         events,
         jitters,
         flips,
+        wire: all_lanes(alloc, lanes)?,
+        route: all_lanes(alloc, lanes)?,
+        inverted: none_inverted(alloc, lanes)?,
     })
 }
 

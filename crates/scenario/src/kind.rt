@@ -29,5 +29,4 @@ pub enum Kind {
     Wire,
     Route,
     Polarity,
-    Subclass,
 }

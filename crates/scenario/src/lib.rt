@@ -11,8 +11,8 @@
 //!
 //! An input is CSV with no header row. The first record is `jesd,1` or `jesd,2`, the second is
 //! `link`. Then come records `frame` (for `map`) or `octets` (for `unmap`); for `run` one record
-//! `timing`, one record `run`, and the others in any order. Spaces and tabs round a field are no
-//! part of it. The first record that is wrong is refused with its number, the cause and the place
+//! `timing`, one record `run`, and the others in any order; version 2 adds `wire`, `route` and
+//! `polarity`. Spaces and tabs round a field are no part of it. The first record that is wrong is refused with its number, the cause and the place
 //! in it.
 #![tactic(auto)]
 
@@ -55,6 +55,7 @@ mod tests_generated;
 mod tests_text;
 mod text;
 mod timing;
+mod wiring;
 
 pub use digits::write_digits;
 pub use fault::ScenarioFault;

@@ -1,9 +1,9 @@
 //! A line of a report.
-ghost use Rattle.std.specs.Prelude.{◌≡◌, ◌<◌, ◌≤◌, ◌+◌, ◌*◌, ◌++◌, [], ◌∷◌, length, Some, IfOk, codes, decimal, map};
+ghost use Rattle.std.specs.Prelude.{◌≡◌, ◌<◌, ◌≤◌, ◌+◌, ◌*◌, ◌++◌, [], ◌∷◌, ℕ, length, Some, IfOk, codes, decimal, map};
 ghost use Rattle.std.specs.List.{flat_map};
 ghost use Rattle.link_params.specs.Links.{Link as LinkValue};
 ghost use Rattle.scenario.specs.Digits.{hex_digits, word_digits};
-ghost use Rattle.scenario.specs.ReportLines.{alarm_fields, fields_text, line, line_of, mark_name, word_fields};
+ghost use Rattle.scenario.specs.ReportLines.{alarm_fields, fields_text, lane_id_fields, line, line_of, mark_name, word_fields};
 
 use crate::digits::write_digits;
 use crate::report_row::{Row, Totals};
@@ -47,12 +47,12 @@ impl LineText {
     pub fn line(&mut self, row: &Row, words: &[u32], s: &Scenario)
         requires room { 128 + 9 * length words.now ≤ self.old.room }
         ensures line { (k : LinkValue) → s.now.link ≡ Some k
-            → self.new.bytes ≡ line_of k row.now words.now }
+            → self.new.bytes ≡ line_of s.now.version k row.now words.now }
         ensures room { self.old.room ≤ self.new.room }
     {
         match &s.link {
             None => self.bytes.clear(),
-            Some(link) => self.row(row, words, link),
+            Some(link) => self.row(row, words, link, s.version),
         }
     }
 
@@ -63,11 +63,11 @@ impl LineText {
         &self.bytes
     }
 
-    // The line of a row of a link.
+    // The line of a row of a link, in a version of the format.
     #[tactic(auto, unfolding(crate::specs::ReportLines::line_of))]
-    pub(crate) fn row(&mut self, row: &Row, words: &[u32], link: &Link)
+    pub(crate) fn row(&mut self, row: &Row, words: &[u32], link: &Link, version: u32)
         requires room { 128 + 9 * length words.now ≤ self.old.room }
-        ensures line { self.new.bytes ≡ line_of link.now row.now words.now }
+        ensures line { self.new.bytes ≡ line_of version link.now row.now words.now }
         ensures room { self.old.room ≤ self.new.room }
     {
         match row {
@@ -75,7 +75,7 @@ impl LineText {
             Row::Hunt(tick) => self.tick_row(b"hunt", *tick),
             Row::Arm(tick) => self.tick_row(b"arm", *tick),
             Row::Release(tick) => self.tick_row(b"release", *tick),
-            Row::Alarm(tick, alarm) => self.alarm_row(*tick, alarm),
+            Row::Alarm(tick, alarm) => self.alarm_row(*tick, alarm, version),
             Row::Enter(time) => self.enter_row(*time, words, &link.shape()),
             Row::Frame(time, mark) => self.frame_row(*time, *mark, words, &link.shape()),
             Row::End(totals) => self.end_row(totals),
@@ -84,7 +84,7 @@ impl LineText {
 
     fn link_row(&mut self, link: &Link)
         requires room { 128 ≤ self.old.room }
-        ensures line { self.new.bytes ≡ line_of link.now Row.Link [] }
+        ensures line { (version : ℕ) → self.new.bytes ≡ line_of version link.now Row.Link [] }
         ensures room { self.old.room ≤ self.new.room }
     {
         self.start(b"link");
@@ -109,14 +109,15 @@ impl LineText {
         self.put_byte(b'\n');
     }
 
-    fn alarm_row(&mut self, tick: u32, alarm: &Alarm)
+    fn alarm_row(&mut self, tick: u32, alarm: &Alarm, version: u32)
         requires room { 128 ≤ self.old.room }
-        ensures line { self.new.bytes ≡ line (codes "alarm") (decimal tick ∷ alarm_fields alarm.now) }
+        ensures line { self.new.bytes ≡ line (codes "alarm")
+            (decimal tick ∷ alarm_fields version alarm.now) }
         ensures room { self.old.room ≤ self.new.room }
     {
         self.start(b"alarm");
         self.number(tick);
-        self.alarm(alarm);
+        self.alarm(alarm, version);
         self.put_byte(b'\n');
     }
 
@@ -146,7 +147,8 @@ impl LineText {
     #[tactic(auto, unfolding(crate::specs::ReportLines::line_of))]
     fn end_row(&mut self, totals: &Totals)
         requires room { 128 ≤ self.old.room }
-        ensures line { (k : LinkValue) → self.new.bytes ≡ line_of k (Row.End totals.now) [] }
+        ensures line { (version : ℕ) (k : LinkValue)
+            → self.new.bytes ≡ line_of version k (Row.End totals.now) [] }
         ensures room { self.old.room ≤ self.new.room }
     {
         self.start(b"end");
@@ -164,9 +166,9 @@ impl LineText {
     }
 
     // The fields of an alarm behind its tick.
-    fn alarm(&mut self, alarm: &Alarm)
+    fn alarm(&mut self, alarm: &Alarm, version: u32)
         requires { length self.old.bytes + 38 ≤ self.old.room }
-        ensures bytes { self.new.bytes ≡ self.old.bytes ++ fields_text (alarm_fields alarm.now) }
+        ensures bytes { self.new.bytes ≡ self.old.bytes ++ fields_text (alarm_fields version alarm.now) }
         ensures short { length self.new.bytes ≤ length self.old.bytes + 38 }
         ensures room { self.old.room ≤ self.new.room }
     {
@@ -180,15 +182,30 @@ impl LineText {
                 b"config_mismatch",
                 &[*lane, *octet],
             ),
+            Alarm::LaneId { lane, lid } => self.lane_id(*lane, *lid, version),
             Alarm::SysrefPhase { device, off } => self.sysref_phase(*device, *off),
             Alarm::StartTimeout => self.named(b"start_timeout", &[]),
         }
     }
 
+    // Another lane's number; version 1 has configuration octet 2 in its place.
+    fn lane_id(&mut self, lane: u32, lid: u32, version: u32)
+        requires { length self.old.bytes + 38 ≤ self.old.room }
+        ensures bytes { self.new.bytes ≡ self.old.bytes ++ fields_text (lane_id_fields version lane lid) }
+        ensures short { length self.new.bytes ≤ length self.old.bytes + 38 }
+        ensures room { self.old.room ≤ self.new.room }
+    {
+        if version >= 2 {
+            self.named(b"lane_id", &[lane, lid]);
+        } else {
+            self.named(b"config_mismatch", &[lane, 2]);
+        }
+    }
+
     fn sysref_phase(&mut self, device: Device, off: u32)
         requires { length self.old.bytes + 38 ≤ self.old.room }
-        ensures bytes { self.new.bytes ≡ self.old.bytes
-            ++ fields_text (alarm_fields (Alarm.SysrefPhase device off)) }
+        ensures bytes { (version : ℕ) → self.new.bytes ≡ self.old.bytes
+            ++ fields_text (alarm_fields version (Alarm.SysrefPhase device off)) }
         ensures short { length self.new.bytes ≤ length self.old.bytes + 38 }
         ensures room { self.old.room ≤ self.new.room }
     {

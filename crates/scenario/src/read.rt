@@ -39,5 +39,5 @@ pub fn read_scenario(alloc: Global, job: Job, bytes: &[u8]) -> Result<Scenario, 
             Err(RecordFault::NoMemory) => return Err(ScenarioFault::NoMemory),
         }
     }
-    reading.finish(number)
+    reading.finish(alloc, number)
 }

@@ -3,7 +3,7 @@ ghost use Rattle.std.specs.Prelude.{◌≡◌};
 ghost use Rattle.scenario.specs.Reads.{flipped};
 
 use crate::plan::{Event, Flip, Jitter};
-use crate::stage::Stage;
+use crate::stage::{Polarity, Stage};
 
 /// What the records so far say.
 #[derive(Drop)]
@@ -15,6 +15,10 @@ pub struct Reading {
     pub events: Vec<Event>,
     pub jitters: Vec<Jitter>,
     pub flips: Vec<Flip>,
+    /// The lanes of the record `wire`, and of `route`; none before it.
+    pub wire: Vec<u32>,
+    pub route: Vec<u32>,
+    pub polarities: Vec<Polarity>,
     /// The counts of the flips together.
     pub flipped_bits: u32,
     pub ghost counted: { flipped flips.items ≡ flipped_bits },

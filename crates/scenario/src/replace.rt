@@ -20,8 +20,13 @@ pub fn replace_frames(s: Scenario, words: Vec<u32>) -> Scenario
     ensures events { result.events ≡ s.events }
     ensures jitters { result.jitters ≡ s.jitters }
     ensures flips { result.flips ≡ s.flips }
+    ensures version { result.version ≡ s.version }
+    ensures wire { result.wire ≡ s.wire }
+    ensures route { result.route ≡ s.route }
+    ensures inverted { result.inverted ≡ s.inverted }
 {
     let Scenario {
+        version,
         shape,
         link,
         ticks,
@@ -30,9 +35,13 @@ pub fn replace_frames(s: Scenario, words: Vec<u32>) -> Scenario
         events,
         jitters,
         flips,
+        wire,
+        route,
+        inverted,
         ..
     } = s;
     Scenario {
+        version,
         shape,
         link,
         ticks,
@@ -42,5 +51,8 @@ pub fn replace_frames(s: Scenario, words: Vec<u32>) -> Scenario
         events,
         jitters,
         flips,
+        wire,
+        route,
+        inverted,
     }
 }

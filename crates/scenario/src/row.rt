@@ -131,8 +131,6 @@ fn read_second_kinds(text: &[u8]) -> Option<Kind>
         Some(Kind::Route)
     } else if is_named(text, b"polarity") {
         Some(Kind::Polarity)
-    } else if is_named(text, b"subclass") {
-        Some(Kind::Subclass)
     } else {
         None
     }

@@ -6,8 +6,8 @@ ghost use Rattle.scenario.specs.declared.plan.Event.{Event as EventValue};
 ghost use Rattle.scenario.specs.declared.plan.Print.TheVariants as printed;
 ghost use Rattle.link_params.specs.Numbers.{octets_per_tick};
 ghost use Rattle.scenario.specs.Inputs.{input_words};
+ghost use Rattle.scenario.specs.Limits.{event_fits, flip_fits, has_words, is_frames, is_order, jitter_fits, ramp_fits};
 ghost use Rattle.scenario.specs.Reads.{copies, flipped};
-ghost use Rattle.scenario.specs.Limits.{event_fits, flip_fits, has_words, is_frames, jitter_fits, ramp_fits};
 
 use crate::input::Input;
 use crate::plan::{Event, Flip, Jitter, Print};
@@ -16,6 +16,8 @@ use link_params::{Link, Shape};
 /// What an input says: a shape of frames, and what is to be mapped, unmapped or run.
 #[derive(Drop)]
 pub struct Scenario {
+    /// The version of the format, 1 or 2.
+    pub version: u32,
     /// The parameters of the link, which obey their laws.
     pub shape: Shape,
     /// The link of a run; none for `map` and `unmap`.
@@ -39,6 +41,14 @@ pub struct Scenario {
     /// The flips of a run. A bit that several cover is inverted where their number is odd. None for
     /// `map` and `unmap`.
     pub flips: Vec<Flip>,
+    /// For each receiver lane the transmitter lane to which it is wired, counted from 0: each lane
+    /// below L once.
+    pub wire: Vec<u32>,
+    /// For each receiver lane the lane of the frame that it is set to be: each lane below L once.
+    pub route: Vec<u32>,
+    /// For each receiver lane whether all its bits are inverted: its wires are exchanged and the
+    /// receiver does not undo it, or the other way round.
+    pub inverted: Vec<bool>,
     pub ghost whole_frames: { length (input_words input) % (shape.m * shape.s) ≡ 0 },
     pub ghost words_fit: { All (λ w. w < 2 ^ (shape.n + shape.cs)) (input_words input) },
     pub ghost whole_octets: { length octets.items % (shape.l * shape.f) ≡ 0 },
@@ -53,6 +63,9 @@ pub struct Scenario {
     pub ghost events_ordered: { IsNonDecreasingBy (λ (e : EventValue). e.tick) events.items },
     pub ghost few_events: { length events.items + length jitters.items ≤ 4096 },
     pub ghost few_flips: { flipped flips.items ≤ 65536 },
+    pub ghost wire_lanes: { IsTrue (is_order shape.l wire.items) },
+    pub ghost route_lanes: { IsTrue (is_order shape.l route.items) },
+    pub ghost all_polarities: { length inverted.items ≡ shape.l },
     pub ghost same_shape: { ForSome link (λ k. k.params ≡ shape) },
     pub ghost some_ticks: { ForSome link (λ k. 1 ≤ ticks) },
     pub ghost some_words: { ForSome link (λ k. IsTrue (has_words input)) },

@@ -10,6 +10,14 @@ pub struct Ramp {
     pub step: u32,
 }
 
+/// Whether all bits of a lane are inverted.
+#[derive(Clone, Copy)]
+pub struct Polarity {
+    pub lane: u32,
+    /// The wires are exchanged and the receiver does not undo it, or the other way round.
+    pub inverted: bool,
+}
+
 /// What the records up to `run` fix, and the ramp once its record came.
 #[derive(Clone, Copy)]
 pub struct Setup {

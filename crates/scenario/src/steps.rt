@@ -70,6 +70,9 @@ impl Reading {
             events: Vec::new(alloc),
             jitters: Vec::new(alloc),
             flips: Vec::new(alloc),
+            wire: Vec::new(alloc),
+            route: Vec::new(alloc),
+            polarities: Vec::new(alloc),
             flipped_bits: 0,
         }
     }
@@ -172,7 +175,9 @@ impl Reading {
             Kind::Dead => self.dead(row),
             Kind::Jitter => self.jitter(row),
             Kind::Flip => self.flip(row),
-            Kind::Wire | Kind::Route | Kind::Polarity | Kind::Subclass => self.newer(),
+            Kind::Wire => self.wire(row),
+            Kind::Route => self.route(row),
+            Kind::Polarity => self.polarity(row),
         }
     }
 

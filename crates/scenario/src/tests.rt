@@ -143,7 +143,7 @@ fn where_bad_inputs_are_wrong(rt: HostRuntime) {
         ),
         (Job::Unmap, b"jesd,2\nroute,0\n", (2, 3, 0)),
         (Job::Unmap, b"jesd,2\npolarity\n", (2, 3, 0)),
-        (Job::Map, b"jesd,2\nsubclass,1\n", (2, 3, 0)),
+        (Job::Map, b"jesd,2\nsubclass,1\n", (2, 4, 0)),
         // 4: no such kind
         (
             Job::Map,
@@ -479,7 +479,7 @@ fn frames_at_once_and_one_by_one(rt: HostRuntime) -> Result<(), Fail> {
 #[test]
 fn where_bad_runs_are_wrong(rt: HostRuntime) {
     let alloc = rt.alloc();
-    let table: [(&[u8], (u32, u8, u32)); 10] = [
+    let table: [(&[u8], (u32, u8, u32)); 9] = [
         (b"jesd,1\nlink,ccrc,1,1,4,1,30,32,2,0,1,0,1\n", (3, 11, 0)),
         (b"jesd,1\nlink,ccrc,1,1,3,1,24,24,0,0,1,0,1\n", (2, 8, 12)),
         (
@@ -507,11 +507,6 @@ fn where_bad_runs_are_wrong(rt: HostRuntime) {
         (
             b"jesd,1\nlink,b,1,1,2,1,16,16,0,0,1,32,0\ntiming,128,2,8,120,7,30,5,20,30\n",
             (4, 11, 0),
-        ),
-        // a kind that is not built
-        (
-            b"jesd,2\nlink,b,1,1,2,1,16,16,0,0,1,32,0\ntiming,128,2,8,120,7,30,5,20,30\nrun,1000,all\nwire,0\n",
-            (5, 12, 0),
         ),
     ];
     for (text, due) in table {
@@ -552,4 +547,97 @@ fn where_records_of_a_run_are_wrong(rt: HostRuntime) {
     for (more, times, due) in table {
         assert_eq!(rt; run_refusal(alloc, more, times), Some(due));
     }
+}
+
+// The beginning of a run of two lanes, in either version, of seven bytes and more.
+const TWO_LANES: &[u8] =
+    b"jesd,2\nlink,b,2,2,2,1,16,16,0,0,1,32,0\ntiming,128,2,8,120,7,20,5,5,20\nrun,560,frames\n";
+
+fn two_lanes(alloc: Global, version: &[u8], more: &[u8]) -> Result<Vec<u8>, AllocError> {
+    let mut text = Vec::from_slice(alloc, version)?;
+    text.extend_from_slice(&TWO_LANES[7..])?;
+    text.extend_from_slice(more)?;
+    Ok(text)
+}
+
+fn two_lanes_refusal(alloc: Global, version: &[u8], more: &[u8]) -> Option<(u32, u8, u32)> {
+    match two_lanes(alloc, version, more) {
+        Ok(text) => refusal(alloc, Job::Run, &text),
+        Err(_) => None,
+    }
+}
+
+#[test]
+fn how_lanes_are_wired(rt: HostRuntime) {
+    let alloc = rt.alloc();
+    let table: [(&[u8], [u32; 2], [u32; 2], [bool; 2]); 7] = [
+        (b"", [0, 1], [0, 1], [false, false]),
+        (b"wire,1,0\n", [1, 0], [0, 1], [false, false]),
+        (
+            b"delay,0,0,50\nroute, 1 ,0\n",
+            [0, 1],
+            [1, 0],
+            [false, false],
+        ),
+        (b"polarity,0,1,0\n", [0, 1], [0, 1], [true, false]),
+        (b"polarity,1,0,1\n", [0, 1], [0, 1], [false, true]),
+        (b"polarity,0,1,1\n", [0, 1], [0, 1], [false, false]),
+        (
+            b"polarity,0,1,0\nroute,0,1\npolarity,1,1,0\nwire,0,1\npolarity,0,0,0\n",
+            [0, 1],
+            [0, 1],
+            [false, true],
+        ),
+    ];
+    for (more, wire, route, inverted) in table {
+        let Ok(text) = two_lanes(alloc, b"jesd,2\n", more) else {
+            assert!(rt; false, "no memory");
+            return;
+        };
+        let Ok(scenario) = read(alloc, Job::Run, &text) else {
+            assert!(rt; false, "refused");
+            return;
+        };
+        assert_eq!(rt; scenario.version, 2);
+        assert_eq!(rt; scenario.wire.as_slice(), wire.as_slice());
+        assert_eq!(rt; scenario.route.as_slice(), route.as_slice());
+        assert_eq!(rt; scenario.inverted.as_slice(), inverted.as_slice());
+    }
+}
+
+#[test]
+fn where_wiring_is_wrong(rt: HostRuntime) {
+    let alloc = rt.alloc();
+    let table: [(&[u8], (u32, u8, u32)); 18] = [
+        (b"wire,1,1\n", (5, 7, 2)),
+        (b"wire,0,1\nwire,0,1\n", (6, 3, 0)),
+        (b"route,0,1\nwire,1,0\nroute,x\n", (7, 3, 0)),
+        (b"wire,0\n", (5, 5, 2)),
+        (b"route,0,1,0\n", (5, 5, 4)),
+        (b"wire,x,2\n", (5, 6, 1)),
+        (b"route,2,x\n", (5, 6, 2)),
+        (b"wire,0,2\n", (5, 7, 2)),
+        (b"wire,2,2\n", (5, 7, 1)),
+        (b"route,1,4294967295\n", (5, 7, 2)),
+        (b"polarity,0,1\n", (5, 5, 3)),
+        (b"polarity,0,1,x\n", (5, 6, 3)),
+        (b"polarity,2,0,0\n", (5, 7, 1)),
+        (b"polarity,0,2,2\n", (5, 7, 2)),
+        (b"polarity,0,1,2\n", (5, 7, 3)),
+        (b"subclass,1\n", (5, 4, 0)),
+        (b"wires,0,1\n", (5, 4, 0)),
+        (b"wire,0,1\nflip,0,0,0\n", (6, 7, 3)),
+    ];
+    for (more, due) in table {
+        assert_eq!(rt; two_lanes_refusal(alloc, b"jesd,2\n", more), Some(due));
+    }
+    let table: [&[u8]; 3] = [b"wire,0,1\n", b"route,x\n", b"polarity\n"];
+    for more in table {
+        assert_eq!(rt;
+            two_lanes_refusal(alloc, b"jesd,1\n", more),
+            Some((5, 4, 0))
+        );
+    }
+    let first = b"jesd,1\nlink,b,1,1,1,1,8,8,0,0,0,17,0\nwire,0\n";
+    assert_eq!(rt; refusal(alloc, Job::Map, first), Some((3, 4, 0)));
 }

@@ -45,10 +45,16 @@ fn link(n: u32) -> Option<Link> {
 
 // Whether the line of a row with these two words is this one, where the text was another one
 // before.
-fn is_line(alloc: Global, link: &Link, row: &Row, line: &[u8]) -> Result<bool, NoMemory> {
+fn is_line(
+    alloc: Global,
+    link: &Link,
+    version: u32,
+    row: &Row,
+    line: &[u8],
+) -> Result<bool, NoMemory> {
     let mut text = LineText::open(alloc, 146)?;
-    text.row(&Row::Hunt(1), &[], link);
-    text.row(row, &[0x2BC, 0x05D], link);
+    text.row(&Row::Hunt(1), &[], link, version);
+    text.row(row, &[0x2BC, 0x05D], link, version);
     Ok(text.bytes() == line)
 }
 
@@ -104,8 +110,21 @@ fn lines(rt: HostRuntime) -> Result<(), Fail> {
         (Row::End(totals), b"end,4294967295,20,19,10,5,4,0,16\n"),
     ];
     for (row, line) in table {
-        assert!(rt; is_line(rt.alloc(), &link, &row, line)?);
+        for version in 1..3 {
+            assert!(rt; is_line(rt.alloc(), &link, version, &row, line)?);
+        }
     }
+    let other = Row::Alarm(350, Alarm::LaneId { lane: 0, lid: 1 });
+    assert!(rt;
+        is_line(
+            rt.alloc(),
+            &link,
+            1,
+            &other,
+            b"alarm,350,config_mismatch,0,2\n"
+        )?
+    );
+    assert!(rt; is_line(rt.alloc(), &link, 2, &other, b"alarm,350,lane_id,0,1\n")?);
     Ok(())
 }
 

@@ -23,6 +23,7 @@ use Rattle.link_model.specs.Moments.{Delivered, History}
 use Rattle.link_model.specs.Orders.{Observed}
 use Rattle.link_model.specs.Receives.{taken_in}
 use Rattle.link_model.specs.Sends.{observed_at}
+use Rattle.link_model.specs.Wiring.{lane_for, route_of}
 
 -- whether an edge was captured, in each tick since the last reset, where tick t comes next
 abbrev pub edges_before : Plan → Device → ℕ → List Bool
@@ -45,8 +46,8 @@ IsNear k i t = k.timing.sysref_start + i * k.timing.sysref_period ≤ t + 2
 abbrev pub no_cell : LaneCell
 no_cell = record { value = 0; mark = Good }
 
--- a column: an octet of each lane, each with its cell's mark; the columns of a session, oldest
--- first
+-- a column: an octet of each lane of the frame, each with its cell's mark; the columns of a session,
+-- oldest first
 abbrev pub Columns : Type 0
 Columns = List (List LaneCell)
 
@@ -103,19 +104,20 @@ decisions_before s h = points (drop (reset_before s Rx (length h)) h)
 
 -- the entries that came into a lane's elastic buffer in the session of the last tick
 abbrev pub entries_now : LaneKind → Plan → History → ℕ → List Entry
-entries_now k s h lane = k.entries s.link.params s.link.timing lane (taken_in (current h) lane)
+entries_now k s h lane =
+    k.entries s.link.params s.link.timing (route_of s lane) (taken_in (current h) lane)
 
 -- the octets that a lane gave in the session of the last tick, each with its cell's mark
 abbrev pub octets_now : LaneKind → Plan → History → ℕ → List LaneCell
 octets_now k s h lane =
     octets_given s.link.params (gives_in (current h)) (entries_now k s h lane)
 
--- and those of all lanes, octet by octet
+-- and those of all lanes of the frame, octet by octet
 unfoldable pub columns_now : LaneKind → Plan → History → Columns
 columns_now k s h =
-    map (λ i. map (λ lane. get_or (octets_now k s h lane) i no_cell)
+    map (λ i. map (λ place. get_or (octets_now k s h (lane_for s place)) i no_cell)
     (numbers_from 0 s.link.params.l))
-    (numbers_from 0 (length (octets_now k s h 0)))
+    (numbers_from 0 (length (octets_now k s h (lane_for s 0))))
 
 -- the octet columns of a tick in which each lane gives one of these cells
 abbrev pub octet_columns : Params → List LaneCell → Columns

@@ -5,6 +5,7 @@ use Rattle.link_params.specs.declared.fields.Params.{Params}
 use Rattle.link_params.specs.Laws.{broken_law, is_b}
 use Rattle.link_params.specs.Numbers.{octets_per_tick, period}
 use Rattle.link_params.specs.TimingLaws.{broken_timing}
+use Rattle.scenario.specs.Limits.{is_order}
 use Rattle.scenario.specs.Plans.{Plan}
 use Rattle.link_model.specs.kept.Before.{Columns, columns_now, current}
 use Rattle.link_model.specs.Gives.{gives_in}
@@ -14,10 +15,11 @@ use Rattle.lane_threads.specs.declared.cell_end.CellEnd.{CellEnd}
 use Rattle.link_run.specs.kept.Gathered.{Gathering, HasGathered, delivered_of}
 use Rattle.link_run.specs.kept.Waits.{HaveRoom, HaveWaiting, Waits}
 
--- the ends, the cells that wait, how many entries of a session are places of the alignment
+-- the ends, the place of each lane in the frame, the cells that wait, how many entries of a session are places of the alignment
 -- sequence, how many of them are still to come, and the frame that is gathered
 pub record Collecting : Type 0 where
   pub ends : List CellEnd
+  pub route : List ℕ
   pub waiting : List Waits
   pub lead : ℕ
   pub ahead : ℕ
@@ -36,6 +38,8 @@ columns_of s h = columns_now (kind_of s.link.params) s h
 pub record HasCollected (now : Collecting) (s : Plan) (t : ℕ) : Type 0 where
   pub end_count : length now.ends ≡ s.link.params.l
   pub wait_count : length now.waiting ≡ s.link.params.l
+  pub route_is : now.route ≡ s.route
+  pub order : is_order s.link.params.l s.route ≡ true
   pub room : HaveRoom now.waiting (period s.link.params)
   pub lead_is : now.lead ≡ lead_of s.link.params
   pub ahead_is : now.ahead ≡ now.lead - gives_in (current (run_of s t))

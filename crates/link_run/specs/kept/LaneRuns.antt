@@ -62,11 +62,12 @@ pub record AreSameLanes (old now : List LanePair) : Type 0 where
   pub each : (lane : ℕ) (d : LanePair) → lane < length old
       → IsSameLane (get_or old lane d) (get_or now lane d)
 
--- tick i of the next segment has these octets, lane 0's first; those of other ticks stay
-pub record ArePut (old now : List LanePair) (i : ℕ) (handed : List ℕ) : Type 0 where
+-- tick i of the next segment has these octets, those of transmitter lane 0 first, each lane's those
+-- of the transmitter lane to which it is wired; those of other ticks stay
+pub record ArePut (old now : List LanePair) (wire : List ℕ) (i : ℕ) (handed : List ℕ) : Type 0 where
   pub put : (lane : ℕ) (d : LanePair) → lane < length old
       → (get_or now lane d).octets.items
-      ≡ set (get_or old lane d).octets.items i (slice_index handed lane)
+      ≡ set (get_or old lane d).octets.items i (slice_index handed (slice_index wire lane))
 
 -- ring, room and count of entries stay, whatever becomes of the lane
 pub record KeepsRing (a b : LanePair) : Type 0 where

@@ -76,6 +76,7 @@ AlarmFits (alarm.LaneLost lane) = lane < 2 ^ 32
 AlarmFits (alarm.NoLock lane) = lane < 2 ^ 32
 AlarmFits (alarm.IlasFault lane place) = (lane < 2 ^ 32) × (place < 2 ^ 32)
 AlarmFits (alarm.ConfigMismatch lane octet) = (lane < 2 ^ 32) × (octet < 2 ^ 32)
+AlarmFits (alarm.LaneId lane lid) = (lane < 2 ^ 32) × (lid < 2 ^ 32)
 AlarmFits (alarm.SysrefPhase d off) = off < 2 ^ 32
 AlarmFits alarm.StartTimeout = Unit {0}
 

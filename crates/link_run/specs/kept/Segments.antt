@@ -1,6 +1,6 @@
 -- The ticks of a segment, planned before the lanes run it.
 -- Code: a list of orders, and what the report asks of each tick.
-use Rattle.std.specs.Prelude.{◌≡◌, ◌<◌, ◌≤◌, ℕ, zero, suc, ◌+◌, Bool, false, List, [], ◌∷◌, ◌++◌, length, get_or, slice_index, Option, None, if◌then◌else◌}
+use Rattle.std.specs.Prelude.{◌≡◌, ◌<◌, ◌≤◌, ℕ, zero, suc, ◌+◌, Bool, true, false, List, [], ◌∷◌, ◌++◌, length, get_or, slice_index, Option, None, if◌then◌else◌}
 use Rattle.link_params.specs.declared.alarms.Device.TheVariants.{Tx, Rx}
 use Rattle.link_params.specs.declared.fields.Params.{Params}
 use Rattle.link_params.specs.Laws.{broken_law}
@@ -8,8 +8,10 @@ use Rattle.link_params.specs.Links.{Link}
 use Rattle.link_params.specs.Numbers.{period}
 use Rattle.link_params.specs.TimingLaws.{broken_timing}
 use Rattle.bring_up.specs.Decisions.{is_running}
+use Rattle.scenario.specs.Limits.{is_order}
 use Rattle.scenario.specs.Plans.{Plan}
 use Rattle.link_model.specs.Edges.{is_reset, off}
+use Rattle.link_model.specs.Wiring.{wire_of}
 use Rattle.link_model.specs.Kinds.{moment_of, run_of}
 use Rattle.link_model.specs.kept.LaneRuns.{lane_ready, lane_run}
 use Rattle.lane_threads.specs.declared.lane_pair.LanePair.{LanePair}
@@ -61,11 +63,11 @@ pub record HasSteps (now : Planned) (s : Plan) (t n : ℕ) : Type 0 where
   pub steps_are : (i : ℕ) → i < n → get_or now.steps i no_step ≡ step_of s (t + i)
   pub edges_are : (i : ℕ) → i < n → get_or now.edges i no_edges ≡ edges_of s (t + i)
 
--- and each lane has their octets
+-- and each lane has the octets of the transmitter lane to which it is wired
 abbrev pub HaveOctets : List LanePair → Plan → ℕ → ℕ → Type 0
 HaveOctets lanes s t n = (lane i : ℕ) (d : LanePair) → lane < length lanes → i < n
     → slice_index (get_or lanes lane d).octets.items i
-    ≡ slice_index (moment_of s (run_of s (t + i))).handed lane
+    ≡ slice_index (moment_of s (run_of s (t + i))).handed (wire_of s lane)
 
 -- the place of the data that comes next, before tick i of these steps
 abbrev pub next_before : Params → Option ℕ → List Step → ℕ → Option ℕ
@@ -138,6 +140,7 @@ pub record IsCarried (lanes : List LanePair) (g : Planned) (s : Plan) (t m : ℕ
     (first last : Option ℕ) : Type 0 where
   pub laws : broken_law s.link.params ≡ None
   pub timing : broken_timing s.link.params s.link.timing ≡ None
+  pub wire : is_order s.link.params.l s.wire ≡ true
   pub runs : HaveRunLanes lanes s (lane_ready s (run_of s t))
   pub rings : HaveRings lanes s t t
   pub at_first : AreAt lanes s.link.params first

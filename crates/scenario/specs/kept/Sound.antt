@@ -1,10 +1,10 @@
 -- What the values that were read obey (this project's own limits).
 -- Code: none of this is computed.
-use Rattle.std.specs.Prelude.{◌≡◌, ◌≤◌, ◌<◌, ℕ, ◌+◌, ◌*◌, ◌/◌, ◌%◌, List, [], length, Option, Some, None, IsTrue}
+use Rattle.std.specs.Prelude.{◌≡◌, ◌≤◌, ◌<◌, ◌⊎◌, true, ℕ, ◌+◌, ◌*◌, ◌/◌, ◌%◌, List, [], length, Option, Some, None, IsTrue}
 use Rattle.std.specs.List.{All}
 use Rattle.link_params.specs.declared.fields.Params.{Params}
 use Rattle.link_params.specs.Numbers.{octets_per_tick}
-use Rattle.scenario.specs.Limits.{event_fits, flip_fits, jitter_fits}
+use Rattle.scenario.specs.Limits.{event_fits, flip_fits, is_order, jitter_fits}
 use Rattle.scenario.specs.Reads.{Seen, copies, flipped, word_limit}
 use Rattle.scenario.specs.declared.plan.Event.{Event}
 use Rattle.scenario.specs.declared.plan.Flip.{Flip}
@@ -44,9 +44,19 @@ pub record AreEvents (p : Params) (ticks : ℕ) (events : List Event) (jitters :
   pub few_events : length events + length jitters ≤ 4096
   pub few_flips : flipped flips ≤ 65536
 
--- no events, jitters and flips
+-- no lanes, or an order of the lanes
+abbrev pub IsLanes : Params → List ℕ → Type 0
+IsLanes p lanes = (lanes ≡ []) ⊎ (is_order p.l lanes ≡ true)
+
+-- the lanes of `wire` and of `route`
+pub record AreLanes (p : Params) (wire route : List ℕ) : Type 0 where
+  pub wire_lanes : IsLanes p wire
+  pub route_lanes : IsLanes p route
+
+-- no events, jitters, flips and lanes
 abbrev pub HasNone : Seen → Type 0
-HasNone seen = (seen.events ≡ []) × (seen.jitters ≡ []) × (seen.flips ≡ [])
+HasNone seen = (seen.events ≡ []) × (seen.jitters ≡ []) × (seen.flips ≡ []) × (seen.wire ≡ [])
+    × (seen.route ≡ [])
 
 -- what holds at this place in the order of records
 abbrev pub AreSound : Stage → Seen → Type 0
@@ -55,6 +65,7 @@ AreSound (stage.Octets p) seen = (seen.words ≡ []) × AreOctets p seen.octets 
 AreSound (stage.Body b) seen = IsInput b.link.params b.ramp seen.words × (seen.octets ≡ [])
     × AreTicks b.link.params b.ticks b.print
     × AreEvents b.link.params b.ticks seen.events seen.jitters seen.flips
+    × AreLanes b.link.params seen.wire seen.route
 AreSound s seen = (seen.words ≡ []) × (seen.octets ≡ []) × HasNone seen
 
 abbrev pub IsSound : Seen → Type 0

@@ -6,13 +6,13 @@ use Rattle.std.specs.List.{All}
 use Rattle.link_params.specs.Laws.{broken_law}
 use Rattle.link_params.specs.TimingLaws.{broken_timing}
 use Rattle.scenario.specs.declared.kind.Job.TheVariants as job
-use Rattle.scenario.specs.Limits.{event_fits, flip_fits, jitter_fits}
+use Rattle.scenario.specs.Limits.{event_fits, flip_fits, is_order, jitter_fits}
 use Rattle.scenario.specs.Generated.{generated}
 use Rattle.scenario.specs.Plans.{Plan, plan_read, source_frame}
 use Rattle.scenario.specs.Reads.{Seen, reads, word_limit}
 
--- a plan whose link obeys the laws, whose events, jitters and flips are in range, and whose source
--- frames are M·S words each
+-- a plan whose link obeys the laws, whose events, jitters and flips are in range, whose lanes are
+-- wired and routed each to one, and whose source frames are M·S words each
 pub record IsLegalPlan (s : Plan) : Type 0 where
   pub laws : broken_law s.link.params ≡ None
   pub timing : broken_timing s.link.params s.link.timing ≡ None
@@ -21,6 +21,9 @@ pub record IsLegalPlan (s : Plan) : Type 0 where
   pub events : All (λ e. event_fits s.link.params s.ticks e ≡ true) s.events
   pub jitters : All (λ j. jitter_fits j ≡ true) s.jitters
   pub flips : All (λ f. flip_fits s.link.params s.ticks f ≡ true) s.flips
+  pub wire : is_order s.link.params.l s.wire ≡ true
+  pub route : is_order s.link.params.l s.route ≡ true
+  pub inverted : length s.inverted ≡ s.link.params.l
   pub size : (n : ℕ) → length (source_frame s n) ≡ s.link.params.m * s.link.params.s
   pub words : (n r : ℕ) → slice_index (source_frame s n) r < word_limit s.link.params
 

@@ -1,4 +1,4 @@
-use Rattle.std.proofs.Common.{◌≡◌, ◌<◌, ◌*◌, ◌∙◌, ℕ, true, false, Bool, [], length, get_or, nat_lt, sym, ap, refl, arith}
+use Rattle.std.proofs.Common.{◌≡◌, ◌<◌, ◌*◌, ◌∙◌, ℕ, true, false, Bool, [], ◌∷◌, length, get_or, nat_lt, sym, ap, refl, arith}
 use Rattle.std.proofs.lemmas.Bool.{and_parts}
 use Rattle.link_params.specs.declared.fields.Params.{Params}
 use Rattle.link_params.specs.declared.orders.TxOrder.{TxOrder}
@@ -16,9 +16,10 @@ use Rattle.lane_threads.specs.Segments.{MayRun, Segment, no_step, step_at}
 use Rattle.lane_threads.specs.kept.LaneEnds.{Follows, FollowsOn}
 use Rattle.lane_threads.proofs.tests_segments.open_lane.Goals as goal
 
--- a plan of this link without ticks
-abbrev plan_on : Link → Plan
-plan_on k = record {
+-- a plan of this link without ticks, with one lane that is wired and routed to this one
+abbrev plan_on : Link → ℕ → Plan
+plan_on k lane = record {
+  version = 1;
   link = k;
   ticks = 0;
   print = print.None;
@@ -26,9 +27,12 @@ plan_on k = record {
   events = [];
   jitters = [];
   flips = [];
+  wire = lane ∷ [];
+  route = lane ∷ [];
+  inverted = [];
 }
 
-none-inverted : (k : Link) (lane n : ℕ) → n ≡ 0 → [] ≡ inverted_bits (plan_on k) lane n
+none-inverted : (k : Link) (lane n : ℕ) → n ≡ 0 → [] ≡ inverted_bits (plan_on k lane) 0 n
 unfolding inverted_bits numbers_from
 none-inverted k lane n none = rw none refl
 
@@ -58,7 +62,7 @@ may-hunt s lane g x next mode still hunts = record {
 pub returns : goal.returns
 returns c =
     let k = c.args.link.now in
-    let s : Plan = plan_on k in
+    let s : Plan = plan_on k c.args.lane in
     let mode : is_b k.params.mode ≡ true = ap is_b c.requires.mode in
     let zero : width k.params * 0 ≡ 0 = omega arith in
     let made = c.in_ok-lane.ensures in
@@ -71,12 +75,13 @@ returns c =
           omega arith;
       cells = λ gives. let bad : false ≡ true = gives in absurd (cc);
       plan = s;
-      lane = c.args.lane;
+      lane = 0;
       run = no_run s;
       runs = record {
-        has = made.begins s refl (c.in_ok-line.ensures.begins s c.args.lane refl
+        has = made.begins s 0 (no_run s) refl refl refl (refl, refl, refl, refl)
+            (c.in_ok-line.ensures.begins s 0 refl
             (c.new.ensures.items ∙ none-inverted k c.args.lane (width k.params * 0) zero));
-        may = may-hunt s c.args.lane _ (no_run s) _ mode refl c.requires.hunts;
+        may = may-hunt s 0 _ (no_run s) _ mode refl c.requires.hunts;
       };
       same = made.next.0;
     }

@@ -17,7 +17,8 @@ apply-requires c =
         r.0,
         λ lane. after (take i c.args.events.now) lane (r.1 lane),
         c.loop-event.invariant.goes_on r.0 r.1 r.2,
-        r.3 i d c.loop-event-test.true,
+        λ lane. r.3 lane,
+        r.4 i d c.loop-event-test.true,
       );
     }
 

@@ -29,6 +29,7 @@ apply_all-requires c =
         plan.0,
         ran.0,
         ran.1,
+        λ lane. (ran.2 lane).2,
         rw v (fit-plan g.events.items g.shape plan.0.link.params g.ticks c.args.from
             (c.end_of-next.result - c.args.from) (g.same_shape plan.0.link f.link) g.events_fit),
       );

@@ -1,4 +1,6 @@
-use Rattle.std.proofs.Common.{◌≡◌, ◌*◌, ◌∙◌, refl, sym, ap, Some, arith}
+use Rattle.std.proofs.Common.{◌≡◌, ◌*◌, ◌∙◌, false, refl, sym, ap, Some, arith}
+use Rattle.std.proofs.lemmas.List.{length-replicate}
+use Rattle.scenario.proofs.LaneOrders.{order-numbers}
 use Rattle.std.proofs.Math.Nat.{zero-mod}
 use Rattle.link_params.specs.Links.{Link}
 use Rattle.scenario.proofs.FitLemmas.{AreSmall, events-fit, events-ordered, small, ticks-fit}
@@ -35,6 +37,11 @@ invariant_of-result c =
       events_ordered = rw is.events (events-ordered number p);
       few_events = rw (is.events, is.jitters) fit.few_events;
       few_flips = rw is.flips fit.few_flips;
+      wire_lanes = rw (c.in_ok-all_lanes.ensures, c.lanes-lanes.ensures.value) (order-numbers p.l);
+      route_lanes = rw (c.in_ok-all_lanes-2.ensures, c.lanes-lanes.ensures.value)
+          (order-numbers p.l);
+      all_polarities = rw (c.in_ok-none_inverted.ensures, c.lanes-lanes.ensures.value)
+          (length-replicate p.l false);
       same_shape = λ k e. let same : c.drawn_link-link.result ≡ k = cc e in
           ap (λ (l : Link). l.params) (sym same) ∙ c.drawn_link-link.ensures.shape;
       some_ticks = λ k e. ticks.some;
@@ -58,4 +65,9 @@ returns-clause-plan c =
     c.in_ok-events.ensures.state c.in_ok-jitters.ensures.answer c.in_ok-jitters.ensures.state
     c.drawn_reset.ensures.answer c.drawn_reset.ensures.state c.in_ok-push.ensures.items
     c.in_ok-flips.ensures in
-    ap Some (plan-is c.args.number c.drawn_shape-shape.result _ _ _ _ is)
+    rw (
+      c.in_ok-all_lanes.ensures,
+      c.in_ok-all_lanes-2.ensures,
+      c.in_ok-none_inverted.ensures,
+      c.lanes-lanes.ensures.value,
+    ) (ap Some (plan-is c.args.number c.drawn_shape-shape.result _ _ _ _ is))

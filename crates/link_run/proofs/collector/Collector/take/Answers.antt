@@ -13,6 +13,7 @@ returns-then-not-runs-clause-took c = λ s t n legal had cells hunts runs.
     let begun : Collecting = c.begin.new.self in
     let now : Collecting = record {
       ends = c.self.inside.ends.items;
+      route = c.self.inside.route.items;
       waiting = c.self.inside.waiting.items;
       lead = c.self.inside.lead;
       ahead = c.self.inside.ahead;
@@ -34,6 +35,7 @@ returns-then-self-gt0-clause-took c = λ s t n legal had cells hunts runs.
     let begun : Collecting = c.begin.new.self in
     let now : Collecting = record {
       ends = c.self.inside.ends.items;
+      route = c.self.inside.route.items;
       waiting = c.self.inside.waiting.items;
       lead = c.self.inside.lead;
       ahead = c.self.inside.ahead;
@@ -55,6 +57,7 @@ returns-else-self-gt0-clause-took c = λ s t n legal had cells hunts runs.
     let begun : Collecting = c.begin.new.self in
     let was : Collecting = record {
       ends = c.self.inside.ends.items;
+      route = c.self.inside.route.items;
       waiting = c.self.inside.waiting.items;
       lead = c.self.inside.lead;
       ahead = c.self.inside.ahead;
@@ -76,6 +79,6 @@ returns-else-self-gt0-clause-took c = λ s t n legal had cells hunts runs.
     (subst (λ (xs : List Waits). AreNext xs c.take.new.waiting) c.deref_mut.ensures.value
     c.take.ensures.taken) in
     collects-late was _ (map next_of c.deref_mut.result.now) s t n
-    (is-run t s legal.laws legal.timing) left there goes none refl taken gave refl refl
+    (is-run t s legal.laws legal.timing) left there goes none refl refl taken gave refl refl
     (λ columns column. c.take.ensures.goes_on s.link.params columns column)
     (λ columns column. c.take.ensures.frames s.link.params columns column)

@@ -1,19 +1,25 @@
 use Rattle.std.proofs.Common.{◌≡◌, ◌≤◌, ◌+◌, ◌*◌, ◌++◌, ◌∷◌, [], ◌∙◌, List, ap, arith, rules, subst, sym, vec_len}
-use Rattle.std.specs.Prelude.{All}
+use Rattle.std.specs.Prelude.{All, IsTrue}
+use Rattle.link_params.specs.declared.fields.Params.{Params}
+use Rattle.scenario.specs.Limits.{flip_fits}
 use Rattle.scenario.specs.declared.plan.Flip.{Flip}
 use Rattle.link_params.specs.Links.{Link}
 use Rattle.link_params.specs.Numbers.{width}
 use Rattle.lane_threads.specs.declared.cell_end.CellEnd.{CellEnd}
 use Rattle.lane_threads.specs.declared.lane_pair.LanePair.{LanePair}
+use Rattle.scenario.specs.declared.scenario_type.Scenario.{Scenario}
 use Rattle.link_run.proofs.Carrying.{cells-none, ring-none}
-use Rattle.link_run.proofs.LaneLemmas.{AreOpened, ArePaired, IsOpened, IsOpenedEnd, fits-within, opened-more, opened-none, paired-more, paired-none}
+use Rattle.link_run.proofs.LaneStates.{link-of}
+use Rattle.link_run.proofs.PlanFacts.{plan-facts}
+use Rattle.link_run.specs.kept.Opened.{IsOpened, IsOpenedEnd}
+use Rattle.link_run.proofs.LaneLemmas.{AreOpened, ArePaired, opened-more, opened-none, paired-more, paired-none}
 use Rattle.link_run.proofs.lanes.Lanes.open.Goals as goal
 
 pub loop-lane-init : goal.loop-lane-init
 loop-lane-init c = record {
-  opened = opened-none (IsOpened c.args.link.now c.args.flips.now c.args.ticks)
+  opened = opened-none (IsOpened c.args.s.now c.args.link.now)
       c.new-pairs.result.items c.new-pairs.ensures.items;
-  ends = opened-none IsOpenedEnd c.new-ends.result.items c.new-ends.ensures.items;
+  ends = opened-none (λ k. IsOpenedEnd) c.new-ends.result.items c.new-ends.ensures.items;
   paired = paired-none c.new-pairs.result.items c.new-ends.result.items c.new-pairs.ensures.items
       c.new-ends.ensures.items;
   long = c.new-pairs.ensures.len;
@@ -21,42 +27,25 @@ loop-lane-init c = record {
 
 pub loop-lane-preserved : goal.loop-lane-preserved
 loop-lane-preserved c =
+    let from : Scenario = c.args.s.now in
     let link = c.args.link.now in
-    let flips = c.args.flips.now in
     let lane = c.loop-lane.lane in
     let lanes = c.loop-lane.pairs.items in
     let ends = c.loop-lane.ends.items in
     let x : LanePair = c.in_ok-pair.pair in
     let y : CellEnd = c.in_ok-pair.end in
-    let fresh = c.in_ok-pair.ensures.new in
-    let within = fits-within link.params c.args.ticks flips c.requires.flips in
     let items : c.push.new.self.items ≡ lanes ++ x ∷ [] = search rules in
     let items_too : c.push-else-is_err.new.self.items ≡ ends ++ y ∷ [] = search rules in
     let longer : vec_len c.push.new.self ≡ vec_len c.loop-lane.pairs + 1 = search rules in
-    let opened : IsOpened link flips c.args.ticks lane x = record {
-      begins = λ s same_link same_flips same_ticks. c.in_ok-pair.ensures.begins s same_link
-          (c.in_ok-line.ensures.begins s lane same_link
-          (c.in_ok-inverted_bits.ensures.inverted s (width link.params * s.ticks) same_flips
-          (subst (λ t. All (λ (f : Flip). f.first + f.count ≤ width link.params * t) flips)
-          (sym same_ticks) within)));
-      same = c.in_ok-pair.ensures.next.0;
-      next = c.in_ok-pair.ensures.next.1;
-      fullest = fresh.0;
-      room = fresh.1;
-      cells = fresh.2;
-    } in
-    let nothing : IsOpenedEnd lane y = record {
-      received_none = c.in_ok-pair.ensures.end.0;
-      known_none = c.in_ok-pair.ensures.end.1;
-    } in
     record {
       opened =
-          subst (λ (l : List LanePair). AreOpened (IsOpened link flips c.args.ticks) l (lane + 1))
+          subst (λ (l : List LanePair). AreOpened (IsOpened from link) l (lane + 1))
           (sym items)
-          (opened-more (IsOpened link flips c.args.ticks) lanes lane x opened
+          (opened-more (IsOpened from link) lanes lane x c.in_ok-pair.ensures.opened
           c.loop-lane.invariant.opened);
-      ends = subst (λ (l : List CellEnd). AreOpened IsOpenedEnd l (lane + 1)) (sym items_too)
-          (opened-more IsOpenedEnd ends lane y nothing c.loop-lane.invariant.ends);
+      ends = subst (λ (l : List CellEnd). AreOpened (λ k. IsOpenedEnd) l (lane + 1)) (sym items_too)
+          (opened-more (λ k. IsOpenedEnd) ends lane y c.in_ok-pair.ensures.end
+          c.loop-lane.invariant.ends);
       paired =
           subst (λ (l : List LanePair). ArePaired l c.push-else-is_err.new.self.items (lane + 1))
           (sym items)
@@ -74,7 +63,9 @@ invariant_of-result c =
     short
 
 pub returns-clause-begins : goal.returns-clause-begins
-returns-clause-begins c s same_link same_flips same_ticks =
+returns-clause-begins c s is =
+    let facts = plan-facts c.args.s.now s is in
+    let same_link = sym (link-of c.args.s.now c.args.link.now s c.requires.link is) in
     let count = c.loop-lane.invariant.opened.count in
     let lanes = c.lanes-lane-end.ensures.value in
     let own = ap (λ k. k.l) c.shape.ensures.same in
@@ -82,11 +73,11 @@ returns-clause-begins c s same_link same_flips same_ticks =
       (
         omega arith,
         λ lane d below. (c.loop-lane.invariant.opened.each lane d (omega arith)).begins s
-            same_link same_flips same_ticks,
+            is,
       ),
       λ lane d below.
           let one = c.loop-lane.invariant.opened.each lane d (omega arith) in
-          ring-none _ s lane c.args.ticks same_ticks one.fullest one.room one.cells,
+          ring-none _ s lane c.args.s.now.ticks facts.ticks one.fullest one.room one.cells,
     )
 
 pub returns-clause-ends : goal.returns-clause-ends

@@ -8,7 +8,7 @@ use Rattle.link_run.proofs.SameLanes.{width-ten}
 use Rattle.link_run.proofs.lanes.Lanes.put.Goals as goal
 
 pub loop-lane-init : goal.loop-lane-init
-loop-lane-init c = changed-none (IsPut c.args.i c.args.handed.now)
+loop-lane-init c = changed-none (IsPut c.args.wire.now c.args.i c.args.handed.now)
     c.deref_mut-pair-items.result.now
 
 pub put-requires-clause-inside : goal.put-requires-clause-inside
@@ -41,7 +41,7 @@ pub loop-lane-preserved : goal.loop-lane-preserved
 loop-lane-preserved c =
     let on = c.loop-lane-test.true in
     let kept = c.loop-lane.invariant.count in
-    changed-more (IsPut c.args.i c.args.handed.now)
+    changed-more (IsPut c.args.wire.now c.args.i c.args.handed.now)
     c.deref_mut-pair-items.result.now c.loop-lane.pair-items c.loop-lane.lane
     (get_or c.loop-lane.pair-items c.loop-lane.lane c.pair-item.result) c.put.new.self
     c.pair-item.result (omega arith) refl
@@ -65,8 +65,8 @@ returns-clause-put c =
     let back = written-back c.self.inside.pairs.len c.self.inside.pairs.items c.loop-lane.pair-items
     (sym long ∙ count) (same ∙ count) in
     rw back
-    (subst (λ (l : List LanePair). ArePut l c.loop-lane.pair-items c.args.i c.args.handed.now) old
-    (are-put c.deref_mut-pair-items.result.now c.loop-lane.pair-items c.loop-lane.lane c.args.i
+    (subst (λ (l : List LanePair). ArePut l c.loop-lane.pair-items c.args.wire.now c.args.i c.args.handed.now) old
+    (are-put c.deref_mut-pair-items.result.now c.loop-lane.pair-items c.args.wire.now c.loop-lane.lane c.args.i
     c.args.handed.now c.loop-lane.invariant (omega arith)))
 
 pub returns-clause-same : goal.returns-clause-same
@@ -80,5 +80,5 @@ returns-clause-same c =
     (sym long ∙ count) (same ∙ count) in
     rw back
     (subst (λ (l : List LanePair). AreSameLanes l c.loop-lane.pair-items) old
-    (are-same-put c.deref_mut-pair-items.result.now c.loop-lane.pair-items c.loop-lane.lane
+    (are-same-put c.deref_mut-pair-items.result.now c.loop-lane.pair-items c.args.wire.now c.loop-lane.lane
     c.args.i c.args.handed.now c.loop-lane.invariant (omega arith)))

@@ -1,5 +1,6 @@
 use Rattle.std.proofs.Common.{◌<◌, List, ap, arith, length, subst, sym}
 use Rattle.link_model.specs.Kinds.{kind_of}
+use Rattle.link_model.specs.Wiring.{route_of}
 use Rattle.lane_threads.specs.declared.lane_pair.LanePair.{LanePair}
 use Rattle.link_run.specs.kept.LaneRuns.{HaveRunLanes}
 use Rattle.link_run.proofs.LaneLemmas.{IsReport, all-written, written-more, written-none}
@@ -28,7 +29,7 @@ returns c s runs run =
     let written = c.loop-lane.auto.reports in
     let count = c.requires in
     all-written IsReport c.self.inside.pairs.items c.loop-lane.reports c.loop-lane.lane s runs
-    (λ lane. (kind_of s.link.params).report s.link.params s.link.timing lane (runs lane).taken)
+    (λ lane. (kind_of s.link.params).report s.link.params s.link.timing (route_of s lane) (runs lane).taken)
     c.loop-lane.invariant (omega arith) (omega arith)
     (subst (λ (l : List LanePair). HaveRunLanes l s runs) (sym c.self.view_is) run)
     (λ k x y done h. done.is s k (runs k) h)

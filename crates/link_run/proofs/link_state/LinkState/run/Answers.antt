@@ -19,6 +19,7 @@ use Rattle.link_run.proofs.LaneStates.{link-of, plan-there}
 use Rattle.link_run.proofs.LinkRuns.{HasTaken, IsReady, carried-on, collecting-met, has-next, has-taken, is-ready, planned-carried, with_carried}
 use Rattle.link_run.proofs.PlanFacts.{plan-facts}
 use Rattle.link_run.proofs.SameLanes.{have-widths}
+use Rattle.link_run.proofs.FeedLemmas.{are-orders}
 use Rattle.link_run.proofs.link_state.LinkState.run.Given.{Over}
 use Rattle.link_run.proofs.link_state.LinkState.run.Goals as goal
 use Rattle.link_run.proofs.link_state.LinkState.run.Goals.{After-self-2, After-plan, After-carry}
@@ -53,8 +54,8 @@ carried-then : (g : Over) (c : After-plan g) (s : Plan) (m : ℕ) → plan_of c.
     (next_of s.link.params c.plan.new.self.tx.sending)
 carried-then g c s m is legal ready planned count =
     planned-carried (view_of c.self-2.inside) c.happen-happened.result s c.args.t m
-    c.plan.new.lanes c.plan.new.segment c.plan.new.self legal ready c.plan.ensures.lanes planned
-    count c.plan.ensures.follows
+    c.plan.new.lanes c.plan.new.segment c.plan.new.self legal
+    (are-orders c.args.s.now s is).0 ready c.plan.ensures.lanes planned count c.plan.ensures.follows
 
 -- and the lanes ran to the last one
 on-then : (g : Over) (c : After-carry g) (s : Plan) (m : ℕ)

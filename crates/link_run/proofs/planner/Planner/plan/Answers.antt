@@ -1,4 +1,4 @@
-use Rattle.std.proofs.Common.{◌≡◌, ◌∙◌, ◌<◌, ◌≤◌, ◌+◌, ℕ, suc, false, Option, None, if◌then◌else◌, length, add-one, arith, sym, ap, subst, refl}
+use Rattle.std.proofs.Common.{List, ◌≡◌, ◌∙◌, ◌<◌, ◌≤◌, ◌+◌, ℕ, suc, false, Option, None, if◌then◌else◌, length, add-one, arith, sym, ap, subst, refl}
 use Rattle.link_params.specs.declared.alarms.Device.TheVariants.{Tx, Rx}
 use Rattle.link_params.specs.Links.{Link}
 use Rattle.link_params.specs.Numbers.{period}
@@ -53,8 +53,11 @@ loop-n-init c =
                 (subst (λ v. HasToldTick v.rx plan (run_of plan c.args.t)) (sym c.self-2.view_is)
                 tick.told))
                 c.plan_tick.ensures.lanes
-                (subst (λ (n : ℕ). ArePut c.args.lanes.now c.plan_tick.new.lanes n
-                c.plan_tick.new.self.tx.handed) (ap length empty) c.plan_tick.ensures.octets)
+                (subst (λ (w : List ℕ). ArePut c.args.lanes.now c.plan_tick.new.lanes w 0
+                c.plan_tick.new.self.tx.handed) (sym (plan-facts c.args.s.now plan is).wire)
+                (subst (λ (n : ℕ). ArePut c.args.lanes.now c.plan_tick.new.lanes
+                c.args.s.now.wire.items n c.plan_tick.new.self.tx.handed) (ap length empty)
+                c.plan_tick.ensures.octets))
                 (fit-all c.args.lanes.now old.link.params 0 (λ lane d below. (c.requires.at lane d below).0) some)
                 c.set_gives.ensures,
           );
@@ -133,8 +136,12 @@ loop-n-preserved c =
                 false plan (c.args.t + n)) at (next.planned plan is))
                 next.room.1 next.room.2 (next.same.1 ∙ c.pass.ensures.same.1)
                 (next.same.0 ∙ c.pass.ensures.same.0) next.lanes
-                (subst (λ (n : ℕ). ArePut c.loop-n.lanes c.plan_tick-in-loop-n.new.lanes n
-                c.plan_tick-in-loop-n.new.self.tx.handed) (c.loop-n.invariant.count ∙ at) next.octets)
+                (subst (λ (w : List ℕ). ArePut c.loop-n.lanes c.plan_tick-in-loop-n.new.lanes w
+                (suc m) c.plan_tick-in-loop-n.new.self.tx.handed)
+                (sym (plan-facts c.args.s.now plan is).wire)
+                (subst (λ (n : ℕ). ArePut c.loop-n.lanes c.plan_tick-in-loop-n.new.lanes
+                c.args.s.now.wire.items n c.plan_tick-in-loop-n.new.self.tx.handed)
+                (c.loop-n.invariant.count ∙ at) next.octets))
                 (subst (Fits c.loop-n.lanes) at fits),
           );
       count = count-tick _ _ _ _ _ any _ tick_any ∙ ap suc c.loop-n.invariant.count

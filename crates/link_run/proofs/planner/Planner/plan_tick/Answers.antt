@@ -5,6 +5,8 @@ use Rattle.link_params.specs.declared.orders.RxOrder.{RxOrder}
 use Rattle.link_params.specs.declared.orders.TxOrder.{TxOrder}
 use Rattle.link_params.specs.Laws.{is_b}
 use Rattle.link_params.specs.Numbers.{period}
+use Rattle.scenario.proofs.LaneOrders.{order-length}
+use Rattle.link_model.proofs.Wirings.{order-below}
 use Rattle.link_model.proofs.NextMoment.{order-next, told-next}
 use Rattle.link_model.proofs.RunTicks.{length-run}
 use Rattle.link_model.specs.Edges.{off}
@@ -51,12 +53,26 @@ tick-sent-requires-clause-link c =
 
 pub put-requires-clause-lanes : goal.put-requires-clause-lanes
 put-requires-clause-lanes c =
+    let s = c.args.s.now in
+    let shape = s.same_shape c.args.self.now.link c.requires.link in
+    let same = ap (λ (p : Params). p.l) shape in
+    let many = order-length s.shape.l s.wire.items s.wire_lanes in
+    let wire = ap length c.as_slice-wire.ensures.value in
+    omega (arith, c.requires.count, many, same, wire)
+
+pub put-requires-clause-wired : goal.put-requires-clause-wired
+put-requires-clause-wired c = λ lane below.
     let (s, is) = plan-there c.args.s.now c.args.self.now.link c.requires.link in
     let stands = (c.requires.stands s is).0 in
     let inner = subst (λ v. StandAt v s c.args.t) (sym c.self.view_is) stands in
     let feed = ap (λ (p : Params). p.l) (c.tick-sent.ensures.same ∙ inner.sent.feed.same_params
     ∙ ap (λ k. k.params) (sym stands.same_link)) in
-    omega (arith, c.requires.count, c.handed.ensures.lanes)
+    let from = c.args.s.now in
+    let shape = ap (λ (p : Params). p.l) (from.same_shape c.args.self.now.link c.requires.link) in
+    let low = order-below from.shape.l from.wire.items lane
+    (omega (arith, c.requires.count, shape)) from.wire_lanes in
+    subst (λ (w : List ℕ). slice_index w lane < length c.handed.result.now)
+    (sym c.as_slice-wire.ensures.value) (omega (arith, low, shape, feed, c.handed.ensures.lanes))
 
 pub put-requires-clause-inside : goal.put-requires-clause-inside
 put-requires-clause-inside c = λ lane d below.
@@ -74,10 +90,18 @@ put-requires-clause-small c = λ lane d below mode.
     let octets = ap (λ (p : Params). is_b p.mode) (params ∙ sym (c.requires.lanes lane d below))
     ∙ mode in
     let long = ap length c.handed.ensures.handed in
-    let inside : lane < length c.tick-sent.new.self.handed =
-    omega (arith, c.requires.count, c.handed.ensures.lanes) in
-    subst (λ (v : List ℕ). slice_index v lane < 256) (sym c.handed.ensures.handed)
-    (c.tick-sent.ensures.small octets lane 0 inside)
+    let from = c.args.s.now in
+    let shape = ap (λ (p : Params). p.l) (from.same_shape c.args.self.now.link c.requires.link) in
+    let low = order-below from.shape.l from.wire.items lane
+    (omega (arith, c.requires.count, shape)) from.wire_lanes in
+    let sent : slice_index from.wire.items lane < length c.tick-sent.new.self.handed =
+    omega (arith, low, shape, feed, long, c.handed.ensures.lanes) in
+    let inside : slice_index c.as_slice-wire.result.now lane < length c.tick-sent.new.self.handed =
+    subst (λ (w : List ℕ). slice_index w lane < length c.tick-sent.new.self.handed)
+    (sym c.as_slice-wire.ensures.value) sent in
+    subst (λ (v : List ℕ). slice_index v (slice_index c.as_slice-wire.result.now lane) < 256)
+    (sym c.handed.ensures.handed)
+    (c.tick-sent.ensures.small octets (slice_index c.as_slice-wire.result.now lane) 0 inside)
 
 pub returns-clause-planned : goal.returns-clause-planned
 returns-clause-planned c = λ s is.
@@ -115,6 +139,9 @@ returns-clause-planned c = λ s is.
 
 pub returns-clause-octets : goal.returns-clause-octets
 returns-clause-octets c =
-    subst (λ n. ArePut c.args.lanes.now c.put.new.self n c.tick-sent.new.self.handed) c.len.ensures
-    (subst (ArePut c.args.lanes.now c.put.new.self c.len.result) c.handed.ensures.handed
-    c.put.ensures.put)
+    subst (λ (w : List ℕ). ArePut c.args.lanes.now c.put.new.self w
+    (length c.args.segment.now.steps) c.tick-sent.new.self.handed) c.as_slice-wire.ensures.value
+    (subst (λ n. ArePut c.args.lanes.now c.put.new.self c.as_slice-wire.result.now n
+    c.tick-sent.new.self.handed) c.len.ensures
+    (subst (ArePut c.args.lanes.now c.put.new.self c.as_slice-wire.result.now c.len.result)
+    c.handed.ensures.handed c.put.ensures.put))

@@ -6,6 +6,7 @@ use Rattle.bring_up.specs.kept.Controls.{HasDecided, NamesOctet}
 use Rattle.bring_up.specs.Decisions.{decide_at}
 use Rattle.link_params.specs.Lanes.{LaneKind}
 use Rattle.scenario.specs.Plans.{Plan, numbers_from}
+use Rattle.link_model.specs.Wiring.{route_of, wire_of}
 use Rattle.link_model.specs.Moments.{History}
 use Rattle.link_model.specs.Kinds.{kind_of, moment_of, run_of}
 use Rattle.link_model.specs.kept.LaneRuns.{lane_stepped}
@@ -26,7 +27,7 @@ use Rattle.link_run.proofs.receiver.Receiver.decide.Goals as goal
 written : (s : Plan) (t : ℕ) (lanes : List LanePair) (new : List LaneReport)
     → HaveRunLanes lanes s (lane_stepped (kind_of s.link.params) s (run_of s t))
     → ((q : Plan) (runs : ℕ → LaneRun) → HaveRunLanes lanes q runs
-    → new ≡ map (λ lane. (kind_of q.link.params).report q.link.params q.link.timing lane
+    → new ≡ map (λ lane. (kind_of q.link.params).report q.link.params q.link.timing (route_of q lane)
     (runs lane).taken) (numbers_from 0 q.link.params.l))
     → new ≡ (moment_of s (run_of s t)).reports
 written s t lanes new ran wrote =
@@ -40,7 +41,7 @@ named s t =
     let k : LaneKind = kind_of s.link.params in
     let h : History = run_of s t in
     subst (All (NamesOctet s.link.params)) (sym (reports-next k s h))
-    (names-octets s.link.params s.link.timing (took k s h) (lanes_of s))
+    (names-octets s.link.params s.link.timing (route_of s) (took k s h) (lanes_of s))
 
 pub report-requires : goal.report-requires
 report-requires c =

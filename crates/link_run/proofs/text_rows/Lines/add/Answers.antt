@@ -8,7 +8,7 @@ pub unreachable-requires-in_default-extend_from_slice :
 unreachable-requires-in_default-extend_from_slice c =
     let k = c.in-Some.link in
     let short = legal-short k c.shape-shape.ensures.legal c.timing-timing.ensures.legal in
-    let line = length-row k c.args.row.now c.args.words.now short c.row_fits.ensures in
+    let line = length-row c.args.s.now.version k c.args.row.now c.args.words.now short c.row_fits.ensures in
     let is = ap length (c.bytes.ensures ∙ c.line.ensures.line k c.in-Some.is) in
     let full = rw c.in_default-extend_from_slice.is at c.extend_from_slice.ensures.full in
     let words = ap (λ (l : Gathered). l.words) c.self.view_is in

@@ -37,6 +37,8 @@ returns-clause-took g c = λ first before h.
       names.0 ∙ h.0,
       names.1 ∙ h.1,
       took-gathered _ _ _ before (record { row = c.args.row.now; words = c.args.words.now }) refl refl
-          fine fine refl (λ s is. c.add.ensures.bytes s.link (plan-facts now.s.now s is).link)
+          fine fine refl (λ s is.
+          let facts = plan-facts now.s.now s is in
+          rw facts.version (c.add.ensures.bytes s.link facts.link))
           (c.make_room.ensures.took _ before h.2),
     )

@@ -10,6 +10,10 @@ pub returns-in-ConfigMismatch-clause-bytes : goal.returns-in-ConfigMismatch-clau
 returns-in-ConfigMismatch-clause-bytes c =
     rw c.in-ConfigMismatch.is c.named-in-ConfigMismatch.ensures.bytes
 
+pub returns-in-SysrefPhase-clause-bytes : goal.returns-in-SysrefPhase-clause-bytes
+returns-in-SysrefPhase-clause-bytes c =
+    rw c.in-SysrefPhase.is (c.sysref_phase.ensures.bytes c.args.version)
+
 pub returns-in-StartTimeout-clause-bytes : goal.returns-in-StartTimeout-clause-bytes
 returns-in-StartTimeout-clause-bytes c =
     rw c.in-StartTimeout.is c.named-in-StartTimeout.ensures.bytes

@@ -6,7 +6,7 @@ use Rattle.scenario.proofs.line_text.LineText.link_row.Goals as goal
 
 pub returns-clause-line : goal.returns-clause-line
 unfolding line_of
-returns-clause-line c =
+returns-clause-line c version =
     let p = c.args.link.now.params in
     let t = c.args.link.now.timing in
     let due : List ℕ = period p ∷ lat_ticks p t ∷ latency p t ∷ depth p t ∷ bound p t ∷ [] in

@@ -1,4 +1,6 @@
+use Rattle.std.proofs.Common.{◌∙◌, length, ap}
 use Rattle.scenario.specs.Answer.{seen_of}
+use Rattle.scenario.proofs.LaneOrders.{length-inverted, order-numbers}
 use Rattle.scenario.proofs.InputLemmas.{mapped-sound}
 use Rattle.scenario.proofs.reading.Reading.mapped.Goals as goal
 
@@ -25,3 +27,15 @@ invariant_of-result-clause-no_jitters c =
 pub invariant_of-result-clause-no_flips : goal.invariant_of-result-clause-no_flips
 invariant_of-result-clause-no_flips c =
     λ e. (mapped-sound (seen_of c.args.self) c.args.shape c.requires.place c.requires.sound).2.2
+
+pub invariant_of-result-clause-wire_lanes : goal.invariant_of-result-clause-wire_lanes
+invariant_of-result-clause-wire_lanes c =
+    rw (c.in_ok-all_lanes.ensures, c.lanes-lanes.ensures.value) (order-numbers c.args.shape.l)
+
+pub invariant_of-result-clause-route_lanes : goal.invariant_of-result-clause-route_lanes
+invariant_of-result-clause-route_lanes c =
+    rw (c.in_ok-all_lanes-2.ensures, c.lanes-lanes.ensures.value) (order-numbers c.args.shape.l)
+
+pub invariant_of-result-clause-all_polarities : goal.invariant_of-result-clause-all_polarities
+invariant_of-result-clause-all_polarities c =
+    ap length c.in_ok-inverted_lanes.ensures ∙ length-inverted _ _ ∙ c.lanes-lanes.ensures.value
